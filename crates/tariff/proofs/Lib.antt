@@ -1,2 +1,4 @@
+pub mod Cents
 pub mod Front
 pub mod Nearest
+pub mod Sums

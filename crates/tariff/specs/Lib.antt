@@ -1,3 +1,5 @@
 pub mod Limits
+pub mod Money
 pub mod Refusals
 pub mod Rounding
+pub mod Totals

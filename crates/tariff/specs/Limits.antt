@@ -40,6 +40,10 @@ pub record Rows-before (rows : List HourRow) (n : ℕ) : Type 0 where
 abbrev pub most-hours : ℕ
 most-hours = 744
 
+-- the lines of a statement
+abbrev pub line-count : ℕ
+line-count = 14
+
 -- cents, either way
 abbrev pub most-cents : ℕ
 most-cents = 200000000000
