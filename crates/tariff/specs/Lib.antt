@@ -1,5 +1,6 @@
 pub mod Limits
 pub mod Money
+pub mod Pricing
 pub mod Refusals
 pub mod Rounding
 pub mod Totals

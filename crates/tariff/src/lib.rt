@@ -4,6 +4,7 @@ mod facts;
 mod hours;
 mod money;
 mod refusal;
+mod schedule;
 mod statement;
 mod totals;
 
@@ -19,6 +20,9 @@ pub use money::Fraction;
 pub use refusal::Fault;
 pub use refusal::Numbers;
 pub use refusal::Refusal;
+pub use schedule::RefusalFromFault;
+pub use schedule::Schedule;
+pub use schedule::price;
 pub use totals::Energy;
 pub use totals::EnergyMeasure;
 pub use totals::EnergyValue;
