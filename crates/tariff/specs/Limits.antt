@@ -6,6 +6,12 @@ use mathlib.Core.List.{List}
 use Rattle.tariff.specs.declared.facts.PlainFacts.{PlainFacts}
 use Rattle.tariff.specs.declared.hours.HourRow.{HourRow}
 
+-- n items stand before the first one outside its limits; all of them where there is none
+pub record Front {X : Type 0} (Within : X → Type 0) (xs : List X) (n : ℕ) : Type 0 where
+  pub there : n ≤ length xs
+  pub before : (k : ℕ) (d : X) → k < n → Within (getD xs k d)
+  pub outside : (d : X) → n < length xs → Within (getD xs n d) → ⊥
+
 -- kW or kVA
 abbrev pub most-demand : ℕ
 most-demand = 1000000
@@ -29,12 +35,6 @@ no-hour = record { energy = 0; price = 0; scheduled = 0 }
 
 abbrev pub Rows-within : List HourRow → Type 0
 Rows-within rows = (k : ℕ) → Hour-within (getD rows k no-hour)
-
--- n rows stand before the first one outside its limits; all of them where there is none
-pub record Rows-before (rows : List HourRow) (n : ℕ) : Type 0 where
-  pub there : n ≤ length rows
-  pub before : (k : ℕ) → k < n → Hour-within (getD rows k no-hour)
-  pub outside : n < length rows → Hour-within (getD rows n no-hour) → ⊥
 
 -- the hours of 31 days
 abbrev pub most-hours : ℕ

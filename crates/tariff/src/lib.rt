@@ -2,9 +2,11 @@
 mod amounts;
 mod facts;
 mod hours;
+mod limits;
 mod money;
 mod refusal;
 mod schedule;
+mod sheet;
 mod statement;
 mod totals;
 
@@ -23,6 +25,8 @@ pub use refusal::Refusal;
 pub use schedule::RefusalFromFault;
 pub use schedule::Schedule;
 pub use schedule::price;
+pub use sheet::Figure;
+pub use sheet::Unsealed;
 pub use totals::Energy;
 pub use totals::EnergyMeasure;
 pub use totals::EnergyValue;
