@@ -1,6 +1,6 @@
 -- The figures of a sheet and the limits within which it can be sealed.
 use Prim.Native.Nat.{ℕ, _+_, _<_}
-use lib.IntN.{pos}
+use lib.IntN.{ℤ, pos}
 use lib.ListN.{length, getD}
 use lib.Signed.{_≤ℤ_}
 use mathlib.Core.List.{List}
@@ -13,9 +13,13 @@ use Rattle.tariff.specs.declared.sheet.Figure.{Figure}
 abbrev pub Figure-within : Figure → Type 0
 Figure-within figure = (figure .low ≤ℤ figure .value) × (figure .value ≤ℤ figure .high)
 
+-- a figure that is not negative and at most so much
+abbrev pub up-to : ℕ → ℤ → Figure
+up-to most value = record { value = value; low = pos 0; high = pos most }
+
 -- what is read past the last figure
 abbrev pub no-figure : Figure
-no-figure = record { value = pos 0; low = pos 0; high = pos 0 }
+no-figure = up-to 0 (pos 0)
 
 abbrev pub Figures-within : List Figure → Type 0
 Figures-within figures = (k : ℕ) → Figure-within (getD figures k no-figure)
