@@ -1,5 +1,6 @@
-use mathlib.Core.Path.{sym}
+use mathlib.Core.Path.{subst}
+use Rattle.tariff.specs.Sheets.{Figures-within}
 use Rattle.rates.proofs.dts.sheet.DtsDraft.seal.Needs as need
 
 pub ghost-result : need.ghost-result
-ghost-result c = (rw (sym (c .figures .ensures)) (c .in-Ok .ensures tt), tt)
+ghost-result c = (subst Figures-within (c .figures .ensures) (c .in-Ok .ensures tt), tt)
