@@ -1,6 +1,9 @@
 // Refusals and the four numbers of each.
 ghost use mathlib.Core.Path.{_≡_};
-ghost use Rattle.tariff.specs.Refusals.{numbers-of};
+ghost use Rattle.std.specs.declared.option.Option.the-variants.{Some};
+ghost use Rattle.tariff.specs.Refusals.{numbers-of, refusal-text};
+use std::error::Error;
+use std::fmt;
 
 // A line that a schedule cannot price, and the rider that carried it past its limit (0 for none).
 #[derive(Clone, Copy, PartialEq, Eq, Debug)]
@@ -44,3 +47,14 @@ impl Refusal {
         Numbers { number, month, place, rider }
     }
 }
+
+pub impl fmt::Display for Refusal as RefusalDisplay {
+    ghost shown = { λ refusal. Some (refusal-text refusal) };
+
+    fn fmt<W: fmt::Write>(&self, f: &mut fmt::Formatter<W>) -> fmt::Result {
+        let Numbers { number, month, place, rider } = self.numbers();
+        write!(f, "refused {number} {month} {place} {rider}")
+    }
+}
+
+pub impl Error for Refusal as RefusalError {}

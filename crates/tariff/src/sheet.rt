@@ -42,3 +42,11 @@ pub struct Unsealed<D> {
     pub refusal: Refusal,
     pub draft: D,
 }
+
+pub impl<D: Drop> From<Unsealed<D>> for Refusal as RefusalFromUnsealed {
+    ghost converts = { λ unsealed refusal. refusal ≡ unsealed .refusal };
+
+    fn from(unsealed: Unsealed<D>) -> Refusal {
+        unsealed.refusal
+    }
+}
