@@ -6,6 +6,7 @@ ghost use mathlib.Core.Path.{_≡_};
 ghost use Rattle.std.specs.Options.{Cases};
 ghost use Rattle.std.specs.Slices.{Ranks};
 ghost use Rattle.std.specs.shelf.Bests.{FirstBest};
+ghost use Rattle.ranking.specs.Orders.{then-outranks};
 
 // An order on records of type R. It stands on a selector type, so that one
 // record can have several orders.
@@ -34,4 +35,15 @@ pub fn highest<R, K: Order<R>>(run: &[R]) -> Option<usize>
         }
     }
     Some(best)
+}
+
+// One order, and among its equals another.
+pub struct Then<First, Second>(First, Second);
+
+pub impl<R, First: Order<R>, Second: Order<R>> Order<R> for Then<First, Second> as ThenOrder {
+    ghost outranks = { then-outranks (First·Order .outranks) (Second·Order .outranks) };
+
+    fn above(x: &R, y: &R) -> bool {
+        First::above(x, y) || !First::above(y, x) && Second::above(x, y)
+    }
 }
