@@ -13,9 +13,12 @@ use Rattle.tariff.specs.declared.sheet.Figure.{Figure}
 abbrev pub Figure-within : Figure → Type 0
 Figure-within figure = (figure .low ≤ℤ figure .value) × (figure .value ≤ℤ figure .high)
 
+abbrev pub between : ℤ → ℤ → ℤ → Figure
+between low high value = record { value = value; low = low; high = high }
+
 -- a figure that is not negative and at most so much
 abbrev pub up-to : ℕ → ℤ → Figure
-up-to most value = record { value = value; low = pos 0; high = pos most }
+up-to most = between (pos 0) (pos most)
 
 -- what is read past the last figure
 abbrev pub no-figure : Figure
