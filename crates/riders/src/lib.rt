@@ -1,0 +1,6 @@
+// Riders: schedules that stand over a schedule and move one of its lines.
+mod rider;
+
+pub use rider::Adjustment;
+pub use rider::Rider;
+pub use rider::RiderSchedule;
