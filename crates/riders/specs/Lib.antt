@@ -1,1 +1,3 @@
+pub mod Energy
+pub mod Percent
 pub mod Riders

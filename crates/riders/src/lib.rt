@@ -1,4 +1,6 @@
 // Riders: schedules that stand over a schedule and move one of its lines.
+pub mod energy;
+pub mod percent;
 mod rider;
 
 pub use rider::Adjustment;

@@ -1,0 +1,7 @@
+// The percent rider: so much of all the lines beneath.
+mod charge;
+mod sheet;
+
+pub use charge::PercentAdjustment;
+pub use sheet::PercentDraft;
+pub use sheet::PercentSheet;
