@@ -1,2 +1,4 @@
+pub mod Credits
 pub mod Numbers
+pub mod Running
 pub mod Sums

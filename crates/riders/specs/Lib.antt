@@ -1,3 +1,4 @@
+pub mod Credit
 pub mod Energy
 pub mod Percent
 pub mod Riders

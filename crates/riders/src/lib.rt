@@ -1,4 +1,5 @@
 // Riders: schedules that stand over a schedule and move one of its lines.
+pub mod credit;
 pub mod energy;
 pub mod percent;
 mod rider;

@@ -1,0 +1,63 @@
+// The sheet of a Primary Service Credit.
+ghost use Prim.Native.Nat.{ℕ};
+ghost use lib.ListN.{getD};
+ghost use mathlib.Core.Path.{_≡_};
+ghost use Rattle.std.specs.Results.{Cases};
+ghost use Rattle.tariff.specs.Sheets.{Figure-within, Refused-figure, no-figure};
+ghost use Rattle.riders.specs.Credit.{credit-figures};
+use tariff::Figure;
+use tariff::Unsealed;
+
+// The rider's number and its figures, any numbers: cents per MW in each band of billing
+// capacity, and cents per month.
+#[derive(Clone, Copy)]
+pub struct CreditDraft {
+    pub number: i64,
+    pub first: i64,
+    pub second: i64,
+    pub third: i64,
+    pub last: i64,
+    pub fixed: i64,
+}
+
+// The published figures. The number is the buyer's to give: 0 is none.
+pub const PSC_2009: CreditDraft = CreditDraft {
+    number: 0,
+    first: 217_500,
+    second: 75_200,
+    third: 44_100,
+    last: 42_500,
+    fixed: 386_700,
+};
+
+// A sealed sheet: its figures lie within their limits and stay as they are.
+#[derive(Clone, Copy)]
+pub struct CreditSheet {
+    pub(super) figures: CreditDraft,
+    ghost within: { (k : ℕ) → Figure-within (getD (credit-figures figures) k no-figure) },
+}
+
+impl CreditDraft {
+    fn figures(&self) -> [Figure; 6]
+        ensures { λ r. ⌜ r ≡ credit-figures (now (self .entry)) ⌝ }
+    {
+        [
+            Figure { value: self.number, low: 1, high: 65_535 },
+            Figure { value: self.first, low: 0, high: 500_000 },
+            Figure { value: self.second, low: 0, high: 500_000 },
+            Figure { value: self.third, low: 0, high: 500_000 },
+            Figure { value: self.last, low: 0, high: 500_000 },
+            Figure { value: self.fixed, low: 0, high: 10_000_000 },
+        ]
+    }
+
+    // Refused where a figure is outside its limits; the draft comes back as it was.
+    pub fn seal(self) -> Result<CreditSheet, Unsealed<CreditDraft>>
+        ensures { λ r. ⌜ Cases r (λ sheet. sheet .figures ≡ self) (λ unsealed. (unsealed .draft ≡ self) × Refused-figure (credit-figures self) (unsealed .refusal)) ⌝ }
+    {
+        match Figure::check(&self.figures()) {
+            Ok(()) => Ok(CreditSheet { figures: self }),
+            Err(refusal) => Err(Unsealed { refusal, draft: self }),
+        }
+    }
+}
