@@ -4,6 +4,8 @@ mod money;
 #[cfg(test)]
 mod months;
 #[cfg(test)]
+mod piles;
+#[cfg(test)]
 mod ranks;
 #[cfg(test)]
 mod sheets;
