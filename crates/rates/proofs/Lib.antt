@@ -1,1 +1,5 @@
+pub mod DosLines
 pub mod DtsLines
+pub mod Parts
+pub mod StsLines
+pub mod XtsLines

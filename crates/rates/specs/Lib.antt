@@ -1,1 +1,5 @@
+pub mod Amounts
+pub mod Dos
 pub mod Dts
+pub mod Sts
+pub mod Xts

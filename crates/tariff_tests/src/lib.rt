@@ -1,4 +1,6 @@
-// Tests of the ranking, the tariff and the rates.
+// Tests of the ranking, the tariff, the rates and the riders.
+#[cfg(test)]
+mod dos;
 #[cfg(test)]
 mod money;
 #[cfg(test)]
@@ -9,3 +11,7 @@ mod piles;
 mod ranks;
 #[cfg(test)]
 mod sheets;
+#[cfg(test)]
+mod sts;
+#[cfg(test)]
+mod xts;

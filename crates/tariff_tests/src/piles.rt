@@ -8,7 +8,6 @@ use riders::RiderSchedule;
 use riders::credit::CreditAdjustment;
 use riders::credit::CreditDraft;
 use riders::credit::CreditSheet;
-use riders::credit::PSC_2009;
 use riders::energy::EnergyAdjustment;
 use riders::energy::EnergyDraft;
 use riders::energy::EnergySheet;
@@ -56,9 +55,7 @@ fn published() -> Result<DtsSheet, Refusal> {
 }
 
 fn credit() -> Result<CreditSheet, Refusal> {
-    let mut psc = PSC_2009;
-    psc.number = 1;
-    Ok(psc.seal()?)
+    Ok(CreditDraft::published_2009(1).seal()?)
 }
 
 fn energy(number: i64, rate: i64) -> Result<EnergySheet, Refusal> {

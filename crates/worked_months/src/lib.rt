@@ -1,6 +1,6 @@
 // Worked months: examples of the rates and riders, checked together against the definitions.
-ghost use mathlib.Core.Path.{_≡_};
 ghost use lib.ListN.{length};
+ghost use mathlib.Core.Path.{_≡_};
 ghost use Rattle.std.specs.shelf.Lists.{All};
 ghost use Rattle.worked_months.specs.Months.{Holds, worked-months};
 

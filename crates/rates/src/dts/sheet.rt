@@ -4,7 +4,7 @@ ghost use lib.ListN.{getD};
 ghost use mathlib.Core.Path.{_≡_};
 ghost use Rattle.std.specs.Results.{Cases};
 ghost use Rattle.tariff.specs.Sheets.{Figure-within, Refused-figure, no-figure};
-ghost use Rattle.rates.specs.Dts.{dts-figures};
+ghost use Rattle.rates.specs.Dts.{dts-2007, dts-figures, gts-2007};
 use tariff::Figure;
 use tariff::Unsealed;
 
@@ -53,6 +53,18 @@ pub struct DtsSheet {
 }
 
 impl DtsDraft {
+    pub fn dts_2007() -> DtsDraft
+        ensures { λ r. ⌜ r ≡ dts-2007 ⌝ }
+    {
+        DTS_2007
+    }
+
+    pub fn gts_2007() -> DtsDraft
+        ensures { λ r. ⌜ r ≡ gts-2007 ⌝ }
+    {
+        GTS_2007
+    }
+
     fn figures(&self) -> [Figure; 8]
         ensures { λ r. ⌜ r ≡ dts-figures (now (self .entry)) ⌝ }
     {

@@ -4,7 +4,7 @@ ghost use lib.ListN.{getD};
 ghost use mathlib.Core.Path.{_≡_};
 ghost use Rattle.std.specs.Results.{Cases};
 ghost use Rattle.tariff.specs.Sheets.{Figure-within, Refused-figure, no-figure};
-ghost use Rattle.riders.specs.Credit.{credit-figures};
+ghost use Rattle.riders.specs.Credit.{credit-figures, psc-2009};
 use tariff::Figure;
 use tariff::Unsealed;
 
@@ -20,7 +20,7 @@ pub struct CreditDraft {
     pub fixed: i64,
 }
 
-// The published figures. The number is the buyer's to give: 0 is none.
+// The published figures. The number is the buyer's to give; 0 is none.
 pub const PSC_2009: CreditDraft = CreditDraft {
     number: 0,
     first: 217_500,
@@ -38,6 +38,15 @@ pub struct CreditSheet {
 }
 
 impl CreditDraft {
+    // The published figures under a buyer's own number.
+    pub fn published_2009(number: i64) -> CreditDraft
+        ensures { λ r. ⌜ r ≡ psc-2009 number ⌝ }
+    {
+        let mut draft = PSC_2009;
+        draft.number = number;
+        draft
+    }
+
     fn figures(&self) -> [Figure; 6]
         ensures { λ r. ⌜ r ≡ credit-figures (now (self .entry)) ⌝ }
     {
