@@ -44,7 +44,12 @@ impl Refusal {
             Refusal::LinePastLimit { month, fault } => (15, month, fault.line as u64, fault.rider),
             Refusal::FigureOutside { place } => (18, 0, place, 0),
         };
-        Numbers { number, month, place, rider }
+        Numbers {
+            number,
+            month,
+            place,
+            rider,
+        }
     }
 }
 
@@ -52,7 +57,12 @@ pub impl fmt::Display for Refusal as RefusalDisplay {
     ghost shown = { λ refusal. Some (refusal-text refusal) };
 
     fn fmt<W: fmt::Write>(&self, f: &mut fmt::Formatter<W>) -> fmt::Result {
-        let Numbers { number, month, place, rider } = self.numbers();
+        let Numbers {
+            number,
+            month,
+            place,
+            rider,
+        } = self.numbers();
         write!(f, "refused {number} {month} {place} {rider}")
     }
 }

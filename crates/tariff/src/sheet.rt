@@ -23,13 +23,21 @@ impl Bounded for Figure as FigureBounded {
 }
 
 impl Figure {
+    pub fn between(low: i64, high: i64, value: i64) -> Figure
+        ensures { λ r. ⌜ r ≡ record { value = value; low = low; high = high } ⌝ }
+    {
+        Figure { value, low, high }
+    }
+
     // Refused where a figure is outside its limits, with the place of the first such, from 1.
     pub fn check(figures: &[Figure]) -> Result<(), Refusal>
         ensures { λ r. ⌜ Cases r (λ _. Figures-within (now (figures .entry))) (Refused-figure (now (figures .entry))) ⌝ }
     {
         let within = count_within(figures);
         if within < figures.len() {
-            Err(Refusal::FigureOutside { place: within as u64 + 1 })
+            Err(Refusal::FigureOutside {
+                place: within as u64 + 1,
+            })
         } else {
             Ok(())
         }

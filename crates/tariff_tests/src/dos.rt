@@ -14,7 +14,13 @@ use tariff::RefusalDebug;
 use tariff::RefusalFromUnsealed;
 use tariff::price;
 
-const FACTS: PlainFacts = PlainFacts { contract: 1, substation: 1, peak: 0, apparent: 0, earlier: 0 };
+const FACTS: PlainFacts = PlainFacts {
+    contract: 1,
+    substation: 1,
+    peak: 0,
+    apparent: 0,
+    earlier: 0,
+};
 
 fn cents(draft: DosDraft, rows: &[HourRow]) -> Result<[i64; LINES], Refusal> {
     let sheet = draft.seal()?;
@@ -24,11 +30,21 @@ fn cents(draft: DosDraft, rows: &[HourRow]) -> Result<[i64; LINES], Refusal> {
 }
 
 fn draft(f: [i64; 4]) -> DosDraft {
-    DosDraft { energy: f[0], transaction_fee: f[1], opportunity_capacity: f[2], loss_factor: f[3] }
+    DosDraft {
+        energy: f[0],
+        transaction_fee: f[1],
+        opportunity_capacity: f[2],
+        loss_factor: f[3],
+    }
 }
 
 fn published(opportunity_capacity: i64, loss_factor: i64) -> DosDraft {
-    DosDraft { energy: DOS_2009_ENERGY, transaction_fee: DOS_2009_TRANSACTION_FEE, opportunity_capacity, loss_factor }
+    DosDraft {
+        energy: DOS_2009_ENERGY,
+        transaction_fee: DOS_2009_TRANSACTION_FEE,
+        opportunity_capacity,
+        loss_factor,
+    }
 }
 
 // What sealing refuses with as a place; 0 where it seals.
@@ -40,6 +56,7 @@ fn refused_at(draft: DosDraft) -> u64 {
 }
 
 const LEAST: [i64; 4] = [0, 0, 1, -10_000];
+
 const MOST: [i64; 4] = [100_000, 10_000_000, 1_000_000, 10_000];
 
 #[test]
@@ -64,15 +81,36 @@ fn a_refused_draft_comes_back() -> Result<(), Fail> {
         Ok(_) => Err(Fail::new("a figure past its limit was sealed")),
         Err(unsealed) => {
             let numbers = unsealed.refusal.numbers();
-            check_eq((numbers.number, numbers.month, numbers.place, numbers.rider), (18, 0, 3, 0))?;
-            check_eq((unsealed.draft.energy, unsealed.draft.transaction_fee), (528, 50_000))?;
-            check_eq((unsealed.draft.opportunity_capacity, unsealed.draft.loss_factor), (0, 10_001))
+            check_eq(
+                (numbers.number, numbers.month, numbers.place, numbers.rider),
+                (18, 0, 3, 0),
+            )?;
+            check_eq(
+                (unsealed.draft.energy, unsealed.draft.transaction_fee),
+                (528, 50_000),
+            )?;
+            check_eq(
+                (
+                    unsealed.draft.opportunity_capacity,
+                    unsealed.draft.loss_factor,
+                ),
+                (0, 10_001),
+            )
         }
     }
 }
 
-const TRANSACTION: HourRow = HourRow { energy: 32_000, price: 5_000, scheduled: 1 };
-const OTHER: HourRow = HourRow { energy: 40_000, price: 9_000, scheduled: 0 };
+const TRANSACTION: HourRow = HourRow {
+    energy: 32_000,
+    price: 5_000,
+    scheduled: 1,
+};
+
+const OTHER: HourRow = HourRow {
+    energy: 40_000,
+    price: 9_000,
+    scheduled: 0,
+};
 
 #[test]
 fn energy_and_losses_are_charged() -> Result<(), Fail> {
@@ -91,7 +129,12 @@ fn other_hours_have_energy_and_no_losses() -> Result<(), Fail> {
 }
 
 fn interconnection(opportunity_capacity: i64, loss_factor: i64) -> Result<i64, Refusal> {
-    Ok(cents(published(opportunity_capacity, loss_factor), &[TRANSACTION; 20])?[8])
+    Ok(
+        cents(
+            published(opportunity_capacity, loss_factor),
+            &[TRANSACTION; 20],
+        )?[8],
+    )
 }
 
 #[test]
@@ -106,19 +149,48 @@ fn the_greater_part_is_charged() -> Result<(), Fail> {
 
 #[test]
 fn each_transaction_hour_has_its_minimum() -> Result<(), Fail> {
-    let idle = HourRow { energy: 0, price: 9_000, scheduled: 1 };
+    let idle = HourRow {
+        energy: 0,
+        price: 9_000,
+        scheduled: 1,
+    };
     check_eq(cents(published(10_000, 500), &[idle; 3])?[8], 11_880)
 }
 
 #[test]
 fn the_fee_is_charged_every_month() -> Result<(), Fail> {
-    check_eq(cents(published(10_000, 500), &[])?, [0, 0, 0, 0, 0, 0, 0, 0, 0, 50_000, 0, 0, 0, 0])
+    check_eq(
+        cents(published(10_000, 500), &[])?,
+        [0, 0, 0, 0, 0, 0, 0, 0, 0, 50_000, 0, 0, 0, 0],
+    )
 }
 
 #[test]
 fn the_highest_month_is_priced() -> Result<(), Fail> {
-    let most = HourRow { energy: 4_000_000, price: 99_999, scheduled: 1_000_000 };
-    check_eq(cents(draft(MOST), &[most; 744])?, [0, 0, 0, 0, 0, 0, 0, 0, 148_799_256_000, 10_000_000, 0, 0, 0, 0])?;
+    let most = HourRow {
+        energy: 4_000_000,
+        price: 99_999,
+        scheduled: 1_000_000,
+    };
+    check_eq(
+        cents(draft(MOST), &[most; 744])?,
+        [
+            0,
+            0,
+            0,
+            0,
+            0,
+            0,
+            0,
+            0,
+            148_799_256_000,
+            10_000_000,
+            0,
+            0,
+            0,
+            0,
+        ],
+    )?;
     let mut credit = MOST;
     credit[3] = -10_000;
     check_eq(cents(draft(credit), &[most; 744])?[8], 55_800_000_000)

@@ -22,15 +22,43 @@ fn cents(draft: DtsDraft, plain: PlainFacts, rows: &[HourRow]) -> Result<[i64; L
 }
 
 fn month(peak: u32, apparent: u32) -> PlainFacts {
-    PlainFacts { contract: 20_000, substation: 30_000, peak, apparent, earlier: 30_000 }
+    PlainFacts {
+        contract: 20_000,
+        substation: 30_000,
+        peak,
+        apparent,
+        earlier: 30_000,
+    }
 }
 
-const HOUR: HourRow = HourRow { energy: 40_000, price: 5_000, scheduled: 0 };
+const HOUR: HourRow = HourRow {
+    energy: 40_000,
+    price: 5_000,
+    scheduled: 0,
+};
 
 #[test]
 fn gts_has_its_own_delivery() -> Result<(), Fail> {
     let lines = cents(GTS_2007, month(25_000, 30_000), &[HOUR; 2])?;
-    check_eq(lines, [4_360_500, 2_820, 14_058_900, 0, 3_740, 1_980, 170_000, 90_000, 0, 0, 0, 0, 0, 0])
+    check_eq(
+        lines,
+        [
+            4_360_500,
+            2_820,
+            14_058_900,
+            0,
+            3_740,
+            1_980,
+            170_000,
+            90_000,
+            0,
+            0,
+            0,
+            0,
+            0,
+            0,
+        ],
+    )
 }
 
 #[test]
@@ -41,9 +69,27 @@ fn power_factor_counts_below_nine_tenths() -> Result<(), Fail> {
 
 #[test]
 fn the_highest_of_three_is_billed() -> Result<(), Fail> {
-    let peak = PlainFacts { contract: 1, substation: 1, peak: 10, apparent: 10, earlier: 11 };
-    let earlier = PlainFacts { contract: 1, substation: 1, peak: 10, apparent: 10, earlier: 12 };
-    let contract = PlainFacts { contract: 13, substation: 13, peak: 10, apparent: 10, earlier: 12 };
+    let peak = PlainFacts {
+        contract: 1,
+        substation: 1,
+        peak: 10,
+        apparent: 10,
+        earlier: 11,
+    };
+    let earlier = PlainFacts {
+        contract: 1,
+        substation: 1,
+        peak: 10,
+        apparent: 10,
+        earlier: 12,
+    };
+    let contract = PlainFacts {
+        contract: 13,
+        substation: 13,
+        peak: 10,
+        apparent: 10,
+        earlier: 12,
+    };
     check_eq(Facts::new(peak)?.billing_capacity(), 100)?;
     check_eq(Facts::new(earlier)?.billing_capacity(), 108)?;
     check_eq(Facts::new(contract)?.billing_capacity(), 117)
@@ -51,14 +97,21 @@ fn the_highest_of_three_is_billed() -> Result<(), Fail> {
 
 #[test]
 fn a_month_has_744_hours_at_most() -> Result<(), Fail> {
-    let most = HourRow { energy: 4_000_000, price: 99_999, scheduled: 0 };
+    let most = HourRow {
+        energy: 4_000_000,
+        price: 99_999,
+        scheduled: 0,
+    };
     let full = cents(DTS_2007, month(1_000_000, 1_000_000), &[most; 744])?;
     check_eq(full[4], 2_782_532_174)?;
     match cents(DTS_2007, month(0, 0), &[HOUR; 745]) {
         Ok(_) => Err(Fail::new("745 hours were priced")),
         Err(refusal) => {
             let numbers = refusal.numbers();
-            check_eq((numbers.number, numbers.month, numbers.place, numbers.rider), (8, 0, 745, 0))
+            check_eq(
+                (numbers.number, numbers.month, numbers.place, numbers.rider),
+                (8, 0, 745, 0),
+            )
         }
     }
 }

@@ -38,10 +38,24 @@ const NOTHING: DtsDraft = DtsDraft {
     power_factor: 0,
 };
 
-const FULL: HourRow = HourRow { energy: 4_000_000, price: 0, scheduled: 0 };
+const FULL: HourRow = HourRow {
+    energy: 4_000_000,
+    price: 0,
+    scheduled: 0,
+};
 
-fn cents<S: Schedule>(schedule: &S, substation: u32, rows: &[HourRow]) -> Result<[i64; LINES], Refusal> {
-    let facts = Facts::new(PlainFacts { contract: 20_000, substation, peak: 30_000, apparent: 30_000, earlier: 0 })?;
+fn cents<S: Schedule>(
+    schedule: &S,
+    substation: u32,
+    rows: &[HourRow],
+) -> Result<[i64; LINES], Refusal> {
+    let facts = Facts::new(PlainFacts {
+        contract: 20_000,
+        substation,
+        peak: 30_000,
+        apparent: 30_000,
+        earlier: 0,
+    })?;
     let amounts = price(schedule, &facts, &HourList::new(rows))?;
     Ok(amounts.cents)
 }
@@ -75,7 +89,11 @@ fn credit_by_bands() -> Result<(), Fail> {
 
 #[test]
 fn a_percent_of_all_lines_beneath() -> Result<(), Fail> {
-    let small = HourRow { energy: 4_000, price: 0, scheduled: 0 };
+    let small = HourRow {
+        energy: 4_000,
+        price: 0,
+        scheduled: 0,
+    };
     let pile = Rider::over(percent(2, 100)?, Rider::over(energy(1, -50)?, nothing()?));
     check_eq(cents(&pile, 30_000, &[small])?[13], -51)?;
     let turned = Rider::over(percent(2, -10_000)?, published()?);
@@ -85,16 +103,28 @@ fn a_percent_of_all_lines_beneath() -> Result<(), Fail> {
 // Three energy riders at the top rate pass the limit of a line in a full month, and no two do.
 #[test]
 fn the_third_passes_the_limit() -> Result<(), Fail> {
-    let two = Rider::over(energy(8, 100_000)?, Rider::over(energy(7, 100_000)?, nothing()?));
+    let two = Rider::over(
+        energy(8, 100_000)?,
+        Rider::over(energy(7, 100_000)?, nothing()?),
+    );
     check_eq(cents(&two, 30_000, &[FULL; 744])?[13], 148_800_000_000)?;
-    let three = Rider::over(energy(9, 100_000)?, Rider::over(energy(8, 100_000)?, Rider::over(energy(7, 100_000)?, nothing()?)));
+    let three = Rider::over(
+        energy(9, 100_000)?,
+        Rider::over(
+            energy(8, 100_000)?,
+            Rider::over(energy(7, 100_000)?, nothing()?),
+        ),
+    );
     // a fault comes up unchanged through what lies above
     let four = Rider::over(percent(10, 1)?, three);
     match cents(&four, 30_000, &[FULL; 744]) {
         Ok(_) => Err(Fail::new("a line past the limit was priced")),
         Err(refusal) => {
             let numbers = refusal.numbers();
-            check_eq((numbers.number, numbers.month, numbers.place, numbers.rider), (15, 0, 14, 9))
+            check_eq(
+                (numbers.number, numbers.month, numbers.place, numbers.rider),
+                (15, 0, 14, 9),
+            )
         }
     }
 }
@@ -114,7 +144,14 @@ fn percent_place(number: i64, factor: i64) -> u64 {
 }
 
 fn credit_place(f: [i64; 6]) -> u64 {
-    let draft = CreditDraft { number: f[0], first: f[1], second: f[2], third: f[3], last: f[4], fixed: f[5] };
+    let draft = CreditDraft {
+        number: f[0],
+        first: f[1],
+        second: f[2],
+        third: f[3],
+        last: f[4],
+        fixed: f[5],
+    };
     match draft.seal() {
         Ok(_) => 0,
         Err(unsealed) => unsealed.refusal.numbers().place,
@@ -137,6 +174,7 @@ fn rider_figures_have_limits() -> Result<(), Fail> {
 }
 
 const LEAST: [i64; 6] = [1, 0, 0, 0, 0, 0];
+
 const MOST: [i64; 6] = [65_535, 500_000, 500_000, 500_000, 500_000, 10_000_000];
 
 #[test]

@@ -13,6 +13,7 @@ struct Reading {
 }
 
 struct ByKw;
+
 struct ByKva;
 
 impl Order<Reading> for ByKw as KwOrder {

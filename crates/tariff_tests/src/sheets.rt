@@ -25,7 +25,16 @@ fn draft(f: [i64; 8]) -> DtsDraft {
     }
 }
 
-const MOST: [i64; 8] = [10_000_000, 100_000, 10_000_000, 10_000_000, 10_000, 100_000, 10_000_000, 10_000_000];
+const MOST: [i64; 8] = [
+    10_000_000,
+    100_000,
+    10_000_000,
+    10_000_000,
+    10_000,
+    100_000,
+    10_000_000,
+    10_000_000,
+];
 
 #[test]
 fn each_figure_has_limits() -> Result<(), Fail> {
@@ -53,7 +62,10 @@ fn a_refused_draft_comes_back() -> Result<(), Fail> {
         Ok(_) => Err(Fail::new("a figure past its limit was sealed")),
         Err(unsealed) => {
             let numbers = unsealed.refusal.numbers();
-            check_eq((numbers.number, numbers.month, numbers.place, numbers.rider), (18, 0, 5, 0))?;
+            check_eq(
+                (numbers.number, numbers.month, numbers.place, numbers.rider),
+                (18, 0, 5, 0),
+            )?;
             check_eq(unsealed.draft.operating_reserve, 10_001)?;
             check_eq(unsealed.draft.power_factor, -1)?;
             check_eq(unsealed.draft.system_demand, 161_500)

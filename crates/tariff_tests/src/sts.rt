@@ -13,7 +13,13 @@ use tariff::RefusalDebug;
 use tariff::RefusalFromUnsealed;
 use tariff::price;
 
-const FACTS: PlainFacts = PlainFacts { contract: 1, substation: 1, peak: 0, apparent: 0, earlier: 0 };
+const FACTS: PlainFacts = PlainFacts {
+    contract: 1,
+    substation: 1,
+    peak: 0,
+    apparent: 0,
+    earlier: 0,
+};
 
 fn cents(draft: StsDraft, rows: &[HourRow]) -> Result<[i64; LINES], Refusal> {
     let sheet = draft.seal()?;
@@ -23,11 +29,19 @@ fn cents(draft: StsDraft, rows: &[HourRow]) -> Result<[i64; LINES], Refusal> {
 }
 
 fn draft(f: [i64; 3]) -> StsDraft {
-    StsDraft { loss_factor: f[0], unit_rating: f[1], unit_connection: f[2] }
+    StsDraft {
+        loss_factor: f[0],
+        unit_rating: f[1],
+        unit_connection: f[2],
+    }
 }
 
 fn published(loss_factor: i64, unit_rating: i64) -> StsDraft {
-    StsDraft { loss_factor, unit_rating, unit_connection: STS_2009_UNIT_CONNECTION }
+    StsDraft {
+        loss_factor,
+        unit_rating,
+        unit_connection: STS_2009_UNIT_CONNECTION,
+    }
 }
 
 // What sealing refuses with as a place; 0 where it seals.
@@ -39,6 +53,7 @@ fn refused_at(draft: StsDraft) -> u64 {
 }
 
 const LEAST: [i64; 3] = [-10_000, 0, 0];
+
 const MOST: [i64; 3] = [10_000, 1_000_000, 10_000_000];
 
 #[test]
@@ -63,8 +78,14 @@ fn a_refused_draft_comes_back() -> Result<(), Fail> {
         Ok(_) => Err(Fail::new("a figure past its limit was sealed")),
         Err(unsealed) => {
             let numbers = unsealed.refusal.numbers();
-            check_eq((numbers.number, numbers.month, numbers.place, numbers.rider), (18, 0, 2, 0))?;
-            check_eq((unsealed.draft.loss_factor, unsealed.draft.unit_rating), (10_000, -1))?;
+            check_eq(
+                (numbers.number, numbers.month, numbers.place, numbers.rider),
+                (18, 0, 2, 0),
+            )?;
+            check_eq(
+                (unsealed.draft.loss_factor, unsealed.draft.unit_rating),
+                (10_000, -1),
+            )?;
             check_eq(unsealed.draft.unit_connection, 25_900)
         }
     }
@@ -72,12 +93,28 @@ fn a_refused_draft_comes_back() -> Result<(), Fail> {
 
 #[test]
 fn losses_and_connection_are_charged() -> Result<(), Fail> {
-    let hour = HourRow { energy: 100_000, price: 4_000, scheduled: 0 };
-    check_eq(cents(published(-300, 1_500), &[hour; 4])?, [0, 0, 0, 0, 0, 0, 0, 0, 0, 0, -12_000, 38_850, 0, 0])
+    let hour = HourRow {
+        energy: 100_000,
+        price: 4_000,
+        scheduled: 0,
+    };
+    check_eq(
+        cents(published(-300, 1_500), &[hour; 4])?,
+        [0, 0, 0, 0, 0, 0, 0, 0, 0, 0, -12_000, 38_850, 0, 0],
+    )
 }
 
 fn losses(loss_factor: i64) -> Result<i64, Refusal> {
-    Ok(cents(published(loss_factor, 0), &[HourRow { energy: 1, price: 20_000, scheduled: 0 }])?[10])
+    Ok(
+        cents(
+            published(loss_factor, 0),
+            &[HourRow {
+                energy: 1,
+                price: 20_000,
+                scheduled: 0,
+            }],
+        )?[10],
+    )
 }
 
 #[test]
@@ -97,7 +134,29 @@ fn a_rating_is_charged_by_the_kw() -> Result<(), Fail> {
 
 #[test]
 fn the_highest_month_is_priced() -> Result<(), Fail> {
-    let most = HourRow { energy: 4_000_000, price: 99_999, scheduled: 1_000_000 };
+    let most = HourRow {
+        energy: 4_000_000,
+        price: 99_999,
+        scheduled: 1_000_000,
+    };
     let lines = cents(draft([-10_000, 1_000_000, 10_000_000]), &[most; 744])?;
-    check_eq(lines, [0, 0, 0, 0, 0, 0, 0, 0, 0, 0, -74_399_256_000, 10_000_000_000, 0, 0])
+    check_eq(
+        lines,
+        [
+            0,
+            0,
+            0,
+            0,
+            0,
+            0,
+            0,
+            0,
+            0,
+            0,
+            -74_399_256_000,
+            10_000_000_000,
+            0,
+            0,
+        ],
+    )
 }

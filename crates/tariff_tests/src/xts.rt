@@ -13,7 +13,13 @@ use tariff::RefusalDebug;
 use tariff::RefusalFromUnsealed;
 use tariff::price;
 
-const FACTS: PlainFacts = PlainFacts { contract: 1, substation: 1, peak: 0, apparent: 0, earlier: 0 };
+const FACTS: PlainFacts = PlainFacts {
+    contract: 1,
+    substation: 1,
+    peak: 0,
+    apparent: 0,
+    earlier: 0,
+};
 
 fn cents(draft: XtsDraft, rows: &[HourRow]) -> Result<[i64; LINES], Refusal> {
     let sheet = draft.seal()?;
@@ -23,7 +29,12 @@ fn cents(draft: XtsDraft, rows: &[HourRow]) -> Result<[i64; LINES], Refusal> {
 }
 
 fn draft(f: [i64; 4]) -> XtsDraft {
-    XtsDraft { interconnection: f[0], operating_reserve: f[1], voltage_control: f[2], other_support: f[3] }
+    XtsDraft {
+        interconnection: f[0],
+        operating_reserve: f[1],
+        voltage_control: f[2],
+        other_support: f[3],
+    }
 }
 
 // What sealing refuses with as a place; 0 where it seals.
@@ -58,27 +69,77 @@ fn a_refused_draft_comes_back() -> Result<(), Fail> {
         Ok(_) => Err(Fail::new("a figure past its limit was sealed")),
         Err(unsealed) => {
             let numbers = unsealed.refusal.numbers();
-            check_eq((numbers.number, numbers.month, numbers.place, numbers.rider), (18, 0, 3, 0))?;
-            check_eq((unsealed.draft.interconnection, unsealed.draft.operating_reserve), (377, 374))?;
-            check_eq((unsealed.draft.voltage_control, unsealed.draft.other_support), (100_001, -1))
+            check_eq(
+                (numbers.number, numbers.month, numbers.place, numbers.rider),
+                (18, 0, 3, 0),
+            )?;
+            check_eq(
+                (
+                    unsealed.draft.interconnection,
+                    unsealed.draft.operating_reserve,
+                ),
+                (377, 374),
+            )?;
+            check_eq(
+                (unsealed.draft.voltage_control, unsealed.draft.other_support),
+                (100_001, -1),
+            )
         }
     }
 }
 
 #[test]
 fn what_was_scheduled_counts_at_nine_tenths() -> Result<(), Fail> {
-    let hour = HourRow { energy: 800_000, price: 5_000, scheduled: 250_000 };
-    check_eq(cents(XTS_2007, &[hour; 4])?, [0, 0, 0, 0, 149_600, 79_200, 8_000, 0, 339_300, 0, 0, 0, 0, 0])
+    let hour = HourRow {
+        energy: 800_000,
+        price: 5_000,
+        scheduled: 250_000,
+    };
+    check_eq(
+        cents(XTS_2007, &[hour; 4])?,
+        [
+            0,
+            0,
+            0,
+            0,
+            149_600,
+            79_200,
+            8_000,
+            0,
+            339_300,
+            0,
+            0,
+            0,
+            0,
+            0,
+        ],
+    )
 }
 
 #[test]
 fn energy_alone_is_charged() -> Result<(), Fail> {
-    let hour = HourRow { energy: 40_000, price: 5_000, scheduled: 0 };
-    check_eq(cents(XTS_2007, &[hour; 3])?, [0, 0, 0, 0, 5_610, 2_970, 300, 0, 11_310, 0, 0, 0, 0, 0])
+    let hour = HourRow {
+        energy: 40_000,
+        price: 5_000,
+        scheduled: 0,
+    };
+    check_eq(
+        cents(XTS_2007, &[hour; 3])?,
+        [0, 0, 0, 0, 5_610, 2_970, 300, 0, 11_310, 0, 0, 0, 0, 0],
+    )
 }
 
 fn interconnection(draft: XtsDraft, energy: u32, scheduled: u32) -> Result<i64, Refusal> {
-    Ok(cents(draft, &[HourRow { energy, price: 0, scheduled }])?[8])
+    Ok(
+        cents(
+            draft,
+            &[HourRow {
+                energy,
+                price: 0,
+                scheduled,
+            }],
+        )?[8],
+    )
 }
 
 #[test]
@@ -94,9 +155,28 @@ fn the_greater_part_is_charged() -> Result<(), Fail> {
 
 #[test]
 fn the_highest_month_is_priced() -> Result<(), Fail> {
-    let most = HourRow { energy: 4_000_000, price: 99_999, scheduled: 1_000_000 };
+    let most = HourRow {
+        energy: 4_000_000,
+        price: 99_999,
+        scheduled: 1_000_000,
+    };
     check_eq(
         cents(draft(MOST), &[most; 744])?,
-        [0, 0, 0, 0, 74_399_256_000, 74_400_000_000, 74_400_000_000, 0, 74_400_000_000, 0, 0, 0, 0, 0],
+        [
+            0,
+            0,
+            0,
+            0,
+            74_399_256_000,
+            74_400_000_000,
+            74_400_000_000,
+            0,
+            74_400_000_000,
+            0,
+            0,
+            0,
+            0,
+            0,
+        ],
     )
 }

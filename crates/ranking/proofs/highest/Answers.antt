@@ -9,6 +9,6 @@ loop-i-again g c =
     let x = c .index-run-i in
     let y = c .index-run-best in
     elim (c .if-above .came) [
-      then-above w ↦ rw (w .best-is) (first-best-takes order _ _ _ _ _ (c .loop-i .inv) (c .loop-i-test .taken) (x .is) (y .is) (sym (w .if-above .ensures tt)))
-    | else-above w ↦ rw (w .best-is) (first-best-keeps order _ _ _ _ _ (c .loop-i .inv) (c .loop-i-test .taken) (x .is) (y .is) (sym (w .if-above .ensures tt)))
+      | then-above w ↦ rw (w .best-is) (first-best-takes order _ _ _ _ _ (c .loop-i .inv) (c .loop-i-test .taken) (x .is) (y .is) (sym (w .if-above .ensures tt)))
+      | else-above w ↦ rw (w .best-is) (first-best-keeps order _ _ _ _ _ (c .loop-i .inv) (c .loop-i-test .taken) (x .is) (y .is) (sym (w .if-above .ensures tt)))
     ]

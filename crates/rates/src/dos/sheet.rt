@@ -10,6 +10,7 @@ use tariff::Unsealed;
 
 // The published figures; capacity and loss factor are the customer's own.
 pub const DOS_2009_ENERGY: i64 = 528;
+
 pub const DOS_2009_TRANSACTION_FEE: i64 = 50_000;
 
 // The figures of a sheet that is still being filled in, any numbers. Cents per MWh (energy) and
@@ -47,10 +48,10 @@ impl DosDraft {
         ensures { λ r. ⌜ r ≡ dos-figures (now (self .entry)) ⌝ }
     {
         [
-            Figure { value: self.energy, low: 0, high: 100_000 },
-            Figure { value: self.transaction_fee, low: 0, high: 10_000_000 },
-            Figure { value: self.opportunity_capacity, low: 1, high: 1_000_000 },
-            Figure { value: self.loss_factor, low: -10_000, high: 10_000 },
+            Figure::between(0, 100_000, self.energy),
+            Figure::between(0, 10_000_000, self.transaction_fee),
+            Figure::between(1, 1_000_000, self.opportunity_capacity),
+            Figure::between(-10_000, 10_000, self.loss_factor),
         ]
     }
 
@@ -60,7 +61,10 @@ impl DosDraft {
     {
         match Figure::check(&self.figures()) {
             Ok(()) => Ok(DosSheet { figures: self }),
-            Err(refusal) => Err(Unsealed { refusal, draft: self }),
+            Err(refusal) => Err(Unsealed {
+                refusal,
+                draft: self,
+            }),
         }
     }
 }

@@ -69,14 +69,14 @@ impl DtsDraft {
         ensures { λ r. ⌜ r ≡ dts-figures (now (self .entry)) ⌝ }
     {
         [
-            Figure { value: self.system_demand, low: 0, high: 10_000_000 },
-            Figure { value: self.system_energy, low: 0, high: 100_000 },
-            Figure { value: self.delivery_demand, low: 0, high: 10_000_000 },
-            Figure { value: self.delivery_fixed, low: 0, high: 10_000_000 },
-            Figure { value: self.operating_reserve, low: 0, high: 10_000 },
-            Figure { value: self.voltage_control, low: 0, high: 100_000 },
-            Figure { value: self.other_support, low: 0, high: 10_000_000 },
-            Figure { value: self.power_factor, low: 0, high: 10_000_000 },
+            Figure::between(0, 10_000_000, self.system_demand),
+            Figure::between(0, 100_000, self.system_energy),
+            Figure::between(0, 10_000_000, self.delivery_demand),
+            Figure::between(0, 10_000_000, self.delivery_fixed),
+            Figure::between(0, 10_000, self.operating_reserve),
+            Figure::between(0, 100_000, self.voltage_control),
+            Figure::between(0, 10_000_000, self.other_support),
+            Figure::between(0, 10_000_000, self.power_factor),
         ]
     }
 
@@ -86,7 +86,10 @@ impl DtsDraft {
     {
         match Figure::check(&self.figures()) {
             Ok(()) => Ok(DtsSheet { figures: self }),
-            Err(refusal) => Err(Unsealed { refusal, draft: self }),
+            Err(refusal) => Err(Unsealed {
+                refusal,
+                draft: self,
+            }),
         }
     }
 }

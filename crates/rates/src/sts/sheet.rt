@@ -33,16 +33,20 @@ impl StsDraft {
     pub fn published_2009(loss_factor: i64, unit_rating: i64) -> StsDraft
         ensures { λ r. ⌜ r ≡ sts-2009 «loss_factor» «unit_rating» ⌝ }
     {
-        StsDraft { loss_factor, unit_rating, unit_connection: STS_2009_UNIT_CONNECTION }
+        StsDraft {
+            loss_factor,
+            unit_rating,
+            unit_connection: STS_2009_UNIT_CONNECTION,
+        }
     }
 
     fn figures(&self) -> [Figure; 3]
         ensures { λ r. ⌜ r ≡ sts-figures (now (self .entry)) ⌝ }
     {
         [
-            Figure { value: self.loss_factor, low: -10_000, high: 10_000 },
-            Figure { value: self.unit_rating, low: 0, high: 1_000_000 },
-            Figure { value: self.unit_connection, low: 0, high: 10_000_000 },
+            Figure::between(-10_000, 10_000, self.loss_factor),
+            Figure::between(0, 1_000_000, self.unit_rating),
+            Figure::between(0, 10_000_000, self.unit_connection),
         ]
     }
 
@@ -52,7 +56,10 @@ impl StsDraft {
     {
         match Figure::check(&self.figures()) {
             Ok(()) => Ok(StsSheet { figures: self }),
-            Err(refusal) => Err(Unsealed { refusal, draft: self }),
+            Err(refusal) => Err(Unsealed {
+                refusal,
+                draft: self,
+            }),
         }
     }
 }

@@ -43,10 +43,10 @@ impl XtsDraft {
         ensures { λ r. ⌜ r ≡ xts-figures (now (self .entry)) ⌝ }
     {
         [
-            Figure { value: self.interconnection, low: 0, high: 100_000 },
-            Figure { value: self.operating_reserve, low: 0, high: 10_000 },
-            Figure { value: self.voltage_control, low: 0, high: 100_000 },
-            Figure { value: self.other_support, low: 0, high: 100_000 },
+            Figure::between(0, 100_000, self.interconnection),
+            Figure::between(0, 10_000, self.operating_reserve),
+            Figure::between(0, 100_000, self.voltage_control),
+            Figure::between(0, 100_000, self.other_support),
         ]
     }
 
@@ -56,7 +56,10 @@ impl XtsDraft {
     {
         match Figure::check(&self.figures()) {
             Ok(()) => Ok(XtsSheet { figures: self }),
-            Err(refusal) => Err(Unsealed { refusal, draft: self }),
+            Err(refusal) => Err(Unsealed {
+                refusal,
+                draft: self,
+            }),
         }
     }
 }

@@ -51,12 +51,12 @@ impl CreditDraft {
         ensures { λ r. ⌜ r ≡ credit-figures (now (self .entry)) ⌝ }
     {
         [
-            Figure { value: self.number, low: 1, high: 65_535 },
-            Figure { value: self.first, low: 0, high: 500_000 },
-            Figure { value: self.second, low: 0, high: 500_000 },
-            Figure { value: self.third, low: 0, high: 500_000 },
-            Figure { value: self.last, low: 0, high: 500_000 },
-            Figure { value: self.fixed, low: 0, high: 10_000_000 },
+            Figure::between(1, 65_535, self.number),
+            Figure::between(0, 500_000, self.first),
+            Figure::between(0, 500_000, self.second),
+            Figure::between(0, 500_000, self.third),
+            Figure::between(0, 500_000, self.last),
+            Figure::between(0, 10_000_000, self.fixed),
         ]
     }
 
@@ -66,7 +66,10 @@ impl CreditDraft {
     {
         match Figure::check(&self.figures()) {
             Ok(()) => Ok(CreditSheet { figures: self }),
-            Err(refusal) => Err(Unsealed { refusal, draft: self }),
+            Err(refusal) => Err(Unsealed {
+                refusal,
+                draft: self,
+            }),
         }
     }
 }

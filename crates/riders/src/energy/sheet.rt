@@ -27,8 +27,8 @@ impl EnergyDraft {
         ensures { λ r. ⌜ r ≡ energy-figures (now (self .entry)) ⌝ }
     {
         [
-            Figure { value: self.number, low: 1, high: 65_535 },
-            Figure { value: self.rate, low: -100_000, high: 100_000 },
+            Figure::between(1, 65_535, self.number),
+            Figure::between(-100_000, 100_000, self.rate),
         ]
     }
 
@@ -38,7 +38,10 @@ impl EnergyDraft {
     {
         match Figure::check(&self.figures()) {
             Ok(()) => Ok(EnergySheet { figures: self }),
-            Err(refusal) => Err(Unsealed { refusal, draft: self }),
+            Err(refusal) => Err(Unsealed {
+                refusal,
+                draft: self,
+            }),
         }
     }
 }

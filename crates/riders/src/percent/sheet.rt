@@ -27,8 +27,8 @@ impl PercentDraft {
         ensures { λ r. ⌜ r ≡ percent-figures (now (self .entry)) ⌝ }
     {
         [
-            Figure { value: self.number, low: 1, high: 65_535 },
-            Figure { value: self.factor, low: -10_000, high: 10_000 },
+            Figure::between(1, 65_535, self.number),
+            Figure::between(-10_000, 10_000, self.factor),
         ]
     }
 
@@ -38,7 +38,10 @@ impl PercentDraft {
     {
         match Figure::check(&self.figures()) {
             Ok(()) => Ok(PercentSheet { figures: self }),
-            Err(refusal) => Err(Unsealed { refusal, draft: self }),
+            Err(refusal) => Err(Unsealed {
+                refusal,
+                draft: self,
+            }),
         }
     }
 }
