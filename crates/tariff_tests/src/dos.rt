@@ -1,32 +1,17 @@
 // Rate DOS 7 Minutes: its sheet's limits and what it charges. The amounts are worked out by hand from the rate.
-use rates::dos::DOS_2009_ENERGY;
-use rates::dos::DOS_2009_TRANSACTION_FEE;
+use crate::support;
+use crate::support::IDLE;
 use rates::dos::DosDraft;
 use rates::dos::DosSchedule;
 use std::test::*;
-use tariff::Facts;
-use tariff::HourList;
 use tariff::HourRow;
 use tariff::LINES;
-use tariff::PlainFacts;
 use tariff::Refusal;
 use tariff::RefusalDebug;
 use tariff::RefusalFromUnsealed;
-use tariff::price;
-
-const FACTS: PlainFacts = PlainFacts {
-    contract: 1,
-    substation: 1,
-    peak: 0,
-    apparent: 0,
-    earlier: 0,
-};
 
 fn cents(draft: DosDraft, rows: &[HourRow]) -> Result<[i64; LINES], Refusal> {
-    let sheet = draft.seal()?;
-    let facts = Facts::new(FACTS)?;
-    let amounts = price(&sheet, &facts, &HourList::new(rows))?;
-    Ok(amounts.cents)
+    support::cents(&draft.seal()?, IDLE, rows)
 }
 
 fn draft(f: [i64; 4]) -> DosDraft {
@@ -35,15 +20,6 @@ fn draft(f: [i64; 4]) -> DosDraft {
         transaction_fee: f[1],
         opportunity_capacity: f[2],
         loss_factor: f[3],
-    }
-}
-
-fn published(opportunity_capacity: i64, loss_factor: i64) -> DosDraft {
-    DosDraft {
-        energy: DOS_2009_ENERGY,
-        transaction_fee: DOS_2009_TRANSACTION_FEE,
-        opportunity_capacity,
-        loss_factor,
     }
 }
 
@@ -61,7 +37,7 @@ const MOST: [i64; 4] = [100_000, 10_000_000, 1_000_000, 10_000];
 
 #[test]
 fn each_figure_has_limits() -> Result<(), Fail> {
-    check_eq(refused_at(published(10_000, 500)), 0)?;
+    check_eq(refused_at(DosDraft::published_2009(10_000, 500)), 0)?;
     check_eq(refused_at(draft(LEAST)), 0)?;
     check_eq(refused_at(draft(MOST)), 0)?;
     for i in 0..4 {
@@ -77,7 +53,7 @@ fn each_figure_has_limits() -> Result<(), Fail> {
 
 #[test]
 fn a_refused_draft_comes_back() -> Result<(), Fail> {
-    match published(0, 10_001).seal() {
+    match DosDraft::published_2009(0, 10_001).seal() {
         Ok(_) => Err(Fail::new("a figure past its limit was sealed")),
         Err(unsealed) => {
             let numbers = unsealed.refusal.numbers();
@@ -115,7 +91,7 @@ const OTHER: HourRow = HourRow {
 #[test]
 fn energy_and_losses_are_charged() -> Result<(), Fail> {
     check_eq(
-        cents(published(10_000, 500), &[TRANSACTION; 20])?,
+        cents(DosDraft::published_2009(10_000, 500), &[TRANSACTION; 20])?,
         [0, 0, 0, 0, 0, 0, 0, 0, 124_480, 50_000, 0, 0, 0, 0],
     )
 }
@@ -123,15 +99,24 @@ fn energy_and_losses_are_charged() -> Result<(), Fail> {
 #[test]
 fn other_hours_have_energy_and_no_losses() -> Result<(), Fail> {
     let rows = [TRANSACTION, OTHER, TRANSACTION, OTHER];
-    check_eq(cents(published(10_000, 500), &rows)?[8], 23_008)?;
-    check_eq(cents(published(10_000, -500), &rows)?[8], 15_008)?;
-    check_eq(cents(published(10_000, 500), &[OTHER; 5])?[8], 26_400)
+    check_eq(
+        cents(DosDraft::published_2009(10_000, 500), &rows)?[8],
+        23_008,
+    )?;
+    check_eq(
+        cents(DosDraft::published_2009(10_000, -500), &rows)?[8],
+        15_008,
+    )?;
+    check_eq(
+        cents(DosDraft::published_2009(10_000, 500), &[OTHER; 5])?[8],
+        26_400,
+    )
 }
 
 fn interconnection(opportunity_capacity: i64, loss_factor: i64) -> Result<i64, Refusal> {
     Ok(
         cents(
-            published(opportunity_capacity, loss_factor),
+            DosDraft::published_2009(opportunity_capacity, loss_factor),
             &[TRANSACTION; 20],
         )?[8],
     )
@@ -154,13 +139,16 @@ fn each_transaction_hour_has_its_minimum() -> Result<(), Fail> {
         price: 9_000,
         scheduled: 1,
     };
-    check_eq(cents(published(10_000, 500), &[idle; 3])?[8], 11_880)
+    check_eq(
+        cents(DosDraft::published_2009(10_000, 500), &[idle; 3])?[8],
+        11_880,
+    )
 }
 
 #[test]
 fn the_fee_is_charged_every_month() -> Result<(), Fail> {
     check_eq(
-        cents(published(10_000, 500), &[])?,
+        cents(DosDraft::published_2009(10_000, 500), &[])?,
         [0, 0, 0, 0, 0, 0, 0, 0, 0, 50_000, 0, 0, 0, 0],
     )
 }

@@ -14,4 +14,6 @@ mod sheets;
 #[cfg(test)]
 mod sts;
 #[cfg(test)]
+mod support;
+#[cfg(test)]
 mod xts;

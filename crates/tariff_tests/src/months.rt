@@ -1,24 +1,20 @@
 // Months priced under DTS and GTS. The amounts are worked out by hand from the rate.
+use crate::support;
 use rates::dts::DTS_2007;
 use rates::dts::DtsDraft;
 use rates::dts::DtsSchedule;
 use rates::dts::GTS_2007;
 use std::test::*;
 use tariff::Facts;
-use tariff::HourList;
 use tariff::HourRow;
 use tariff::LINES;
 use tariff::PlainFacts;
 use tariff::Refusal;
 use tariff::RefusalDebug;
 use tariff::RefusalFromUnsealed;
-use tariff::price;
 
 fn cents(draft: DtsDraft, plain: PlainFacts, rows: &[HourRow]) -> Result<[i64; LINES], Refusal> {
-    let sheet = draft.seal()?;
-    let facts = Facts::new(plain)?;
-    let amounts = price(&sheet, &facts, &HourList::new(rows))?;
-    Ok(amounts.cents)
+    support::cents(&draft.seal()?, plain, rows)
 }
 
 fn month(peak: u32, apparent: u32) -> PlainFacts {

@@ -1,4 +1,5 @@
 // Riders piled over rates.
+use crate::support;
 use rates::dts::DTS_2007;
 use rates::dts::DtsDraft;
 use rates::dts::DtsSchedule;
@@ -15,8 +16,6 @@ use riders::percent::PercentAdjustment;
 use riders::percent::PercentDraft;
 use riders::percent::PercentSheet;
 use std::test::*;
-use tariff::Facts;
-use tariff::HourList;
 use tariff::HourRow;
 use tariff::LINES;
 use tariff::PlainFacts;
@@ -24,7 +23,6 @@ use tariff::Refusal;
 use tariff::RefusalDebug;
 use tariff::RefusalFromUnsealed;
 use tariff::Schedule;
-use tariff::price;
 
 // A sheet that charges nothing.
 const NOTHING: DtsDraft = DtsDraft {
@@ -49,15 +47,14 @@ fn cents<S: Schedule>(
     substation: u32,
     rows: &[HourRow],
 ) -> Result<[i64; LINES], Refusal> {
-    let facts = Facts::new(PlainFacts {
+    let plain = PlainFacts {
         contract: 20_000,
         substation,
         peak: 30_000,
         apparent: 30_000,
         earlier: 0,
-    })?;
-    let amounts = price(schedule, &facts, &HourList::new(rows))?;
-    Ok(amounts.cents)
+    };
+    support::cents(schedule, plain, rows)
 }
 
 fn nothing() -> Result<DtsSheet, Refusal> {

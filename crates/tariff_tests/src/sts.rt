@@ -1,31 +1,17 @@
 // Rate STS: its sheet's limits and what it charges. The amounts are worked out by hand from the rate.
-use rates::sts::STS_2009_UNIT_CONNECTION;
+use crate::support;
+use crate::support::IDLE;
 use rates::sts::StsDraft;
 use rates::sts::StsSchedule;
 use std::test::*;
-use tariff::Facts;
-use tariff::HourList;
 use tariff::HourRow;
 use tariff::LINES;
-use tariff::PlainFacts;
 use tariff::Refusal;
 use tariff::RefusalDebug;
 use tariff::RefusalFromUnsealed;
-use tariff::price;
-
-const FACTS: PlainFacts = PlainFacts {
-    contract: 1,
-    substation: 1,
-    peak: 0,
-    apparent: 0,
-    earlier: 0,
-};
 
 fn cents(draft: StsDraft, rows: &[HourRow]) -> Result<[i64; LINES], Refusal> {
-    let sheet = draft.seal()?;
-    let facts = Facts::new(FACTS)?;
-    let amounts = price(&sheet, &facts, &HourList::new(rows))?;
-    Ok(amounts.cents)
+    support::cents(&draft.seal()?, IDLE, rows)
 }
 
 fn draft(f: [i64; 3]) -> StsDraft {
@@ -33,14 +19,6 @@ fn draft(f: [i64; 3]) -> StsDraft {
         loss_factor: f[0],
         unit_rating: f[1],
         unit_connection: f[2],
-    }
-}
-
-fn published(loss_factor: i64, unit_rating: i64) -> StsDraft {
-    StsDraft {
-        loss_factor,
-        unit_rating,
-        unit_connection: STS_2009_UNIT_CONNECTION,
     }
 }
 
@@ -58,7 +36,7 @@ const MOST: [i64; 3] = [10_000, 1_000_000, 10_000_000];
 
 #[test]
 fn each_figure_has_limits() -> Result<(), Fail> {
-    check_eq(refused_at(published(-300, 1_500)), 0)?;
+    check_eq(refused_at(StsDraft::published_2009(-300, 1_500)), 0)?;
     check_eq(refused_at(draft(LEAST)), 0)?;
     check_eq(refused_at(draft(MOST)), 0)?;
     for i in 0..3 {
@@ -74,7 +52,7 @@ fn each_figure_has_limits() -> Result<(), Fail> {
 
 #[test]
 fn a_refused_draft_comes_back() -> Result<(), Fail> {
-    match published(10_000, -1).seal() {
+    match StsDraft::published_2009(10_000, -1).seal() {
         Ok(_) => Err(Fail::new("a figure past its limit was sealed")),
         Err(unsealed) => {
             let numbers = unsealed.refusal.numbers();
@@ -99,7 +77,7 @@ fn losses_and_connection_are_charged() -> Result<(), Fail> {
         scheduled: 0,
     };
     check_eq(
-        cents(published(-300, 1_500), &[hour; 4])?,
+        cents(StsDraft::published_2009(-300, 1_500), &[hour; 4])?,
         [0, 0, 0, 0, 0, 0, 0, 0, 0, 0, -12_000, 38_850, 0, 0],
     )
 }
@@ -107,7 +85,7 @@ fn losses_and_connection_are_charged() -> Result<(), Fail> {
 fn losses(loss_factor: i64) -> Result<i64, Refusal> {
     Ok(
         cents(
-            published(loss_factor, 0),
+            StsDraft::published_2009(loss_factor, 0),
             &[HourRow {
                 energy: 1,
                 price: 20_000,
@@ -127,9 +105,9 @@ fn half_a_cent_of_losses_goes_away_from_zero() -> Result<(), Fail> {
 
 #[test]
 fn a_rating_is_charged_by_the_kw() -> Result<(), Fail> {
-    check_eq(cents(published(0, 0), &[])?[11], 0)?;
-    check_eq(cents(published(0, 1), &[])?[11], 26)?;
-    check_eq(cents(published(0, 15), &[])?[11], 389)
+    check_eq(cents(StsDraft::published_2009(0, 0), &[])?[11], 0)?;
+    check_eq(cents(StsDraft::published_2009(0, 1), &[])?[11], 26)?;
+    check_eq(cents(StsDraft::published_2009(0, 15), &[])?[11], 389)
 }
 
 #[test]

@@ -1,31 +1,18 @@
 // Rate XTS: its sheet's limits and what it charges. The amounts are worked out by hand from the rate.
+use crate::support;
+use crate::support::IDLE;
 use rates::xts::XTS_2007;
 use rates::xts::XtsDraft;
 use rates::xts::XtsSchedule;
 use std::test::*;
-use tariff::Facts;
-use tariff::HourList;
 use tariff::HourRow;
 use tariff::LINES;
-use tariff::PlainFacts;
 use tariff::Refusal;
 use tariff::RefusalDebug;
 use tariff::RefusalFromUnsealed;
-use tariff::price;
-
-const FACTS: PlainFacts = PlainFacts {
-    contract: 1,
-    substation: 1,
-    peak: 0,
-    apparent: 0,
-    earlier: 0,
-};
 
 fn cents(draft: XtsDraft, rows: &[HourRow]) -> Result<[i64; LINES], Refusal> {
-    let sheet = draft.seal()?;
-    let facts = Facts::new(FACTS)?;
-    let amounts = price(&sheet, &facts, &HourList::new(rows))?;
-    Ok(amounts.cents)
+    support::cents(&draft.seal()?, IDLE, rows)
 }
 
 fn draft(f: [i64; 4]) -> XtsDraft {
