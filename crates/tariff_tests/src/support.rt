@@ -9,7 +9,7 @@ use tariff::Schedule;
 use tariff::price;
 
 // The facts of a month with nothing on its meter.
-pub const IDLE: PlainFacts = PlainFacts {
+pub(crate) const IDLE: PlainFacts = PlainFacts {
     contract: 1,
     substation: 1,
     peak: 0,
@@ -18,7 +18,7 @@ pub const IDLE: PlainFacts = PlainFacts {
 };
 
 // The cents of each line of a month.
-pub fn cents<S: Schedule>(
+pub(crate) fn cents<S: Schedule>(
     schedule: &S,
     plain: PlainFacts,
     rows: &[HourRow],
