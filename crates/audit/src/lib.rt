@@ -1,4 +1,7 @@
 // Runs of calls on a book, and what holds of every one of them.
+
+#![tactic(auto)]
+
 mod analyst;
 mod auditing;
 mod performing;

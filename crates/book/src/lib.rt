@@ -1,4 +1,7 @@
 // The book: months in their order, a ledger, and the calls of an analyst.
+
+#![tactic(auto)]
+
 mod billing;
 mod book;
 mod finding;

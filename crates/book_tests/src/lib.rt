@@ -1,4 +1,7 @@
 // Tests of the book.
+
+#![tactic(auto)]
+
 #[cfg(test)]
 mod calls;
 #[cfg(test)]

@@ -1,4 +1,7 @@
 // The ledger, in lent memory: entries, their sums, and what a bill and a true-up write.
+
+#![tactic(auto)]
+
 mod entry;
 mod ledger;
 mod totals;

@@ -1,4 +1,7 @@
 // Bills a month, takes a late reading, trues the month up, and prints the ledger.
+
+#![tactic(auto)]
+
 use audit::{Analyst, Answer, Request, audit};
 use ledger::{Entry, Letter};
 use rates::dts::{DTS_2007, DtsSheet};

@@ -1,4 +1,7 @@
 // The highest of a run of records, for any record that has an order.
+
+#![tactic(auto)]
+
 ghost use Rattle.std.specs.Prelude.{◌≡◌, ℕ, ◌<◌, Bool, true, false, length, MatchOption};
 ghost use Rattle.std.specs.Cmp.{IsStrictWeakOrder};
 ghost use Rattle.std.specs.List.{IsFirstBest};
@@ -20,7 +23,7 @@ pub trait Order<R> {
 
 // The place of the highest record of a run, the first among equals; none for an empty run.
 pub fn highest<R, K: Order<R>>(run: &[R]) -> Option<usize>
-    ensures { MatchOption result (length run.now ≡ 0) (λ best. IsFirstBest outranks run.now (length run.now) best) }
+    ensures { MatchOption result (length run.now ≡ 0) (λ best. IsFirstBest K.outranks run.now (length run.now) best) }
 {
     if run.is_empty() {
         return None;

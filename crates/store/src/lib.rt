@@ -1,4 +1,7 @@
 // The months on file, in lent memory.
+
+#![tactic(auto)]
+
 mod carried;
 mod condition;
 mod day;

@@ -1,4 +1,7 @@
 // The pricing of a month: refusals, money, facts, hours and what a schedule means.
+
+#![tactic(auto)]
+
 mod amounts;
 mod facts;
 mod hours;

@@ -16,7 +16,7 @@ pub(crate) trait Bounded {
 
 // How many items stand before the first one outside its limits.
 pub(crate) fn count_within<T: Bounded>(items: &[T]) -> usize
-    ensures { Front bounds items.now result }
+    ensures { Front T.bounds items.now result }
 {
     for (i, item) in items.iter().enumerate() {
         if !item.is_within() {

@@ -1,4 +1,7 @@
 // Tests of the ranking, the tariff, the rates and the riders.
+
+#![tactic(auto)]
+
 #[cfg(test)]
 mod dos;
 #[cfg(test)]

@@ -1,4 +1,7 @@
 // Worked months: examples of the rates and riders, checked together against the definitions.
+
+#![tactic(auto)]
+
 ghost use Rattle.std.specs.Prelude.{◌≡◌, length};
 ghost use Rattle.std.specs.List.{AllByRecursion as All};
 ghost use Rattle.worked_months.specs.Months.{Holds, worked_months};

@@ -43,28 +43,28 @@ pub returns-in-PostReading : goal.returns-in-PostReading
 returns-in-PostReading g c =
     let meaning = g.S.Schedule.meaning c.args.schedule.now in
     let v = view c.args.book.now in
-    let performed = c.post-reading.ensures meaning in
+    let performed = c.post_reading.ensures meaning in
     record { answers = answers_as meaning v c.in-PostReading.is _ (c.answered-in-PostReading.ensures ∙ ap (told (λ _. Done)) performed.answers); leaves = leaves_as meaning v c.in-PostReading.is _ performed.leaves }
 
 pub returns-in-PostDay : goal.returns-in-PostDay
 returns-in-PostDay g c =
     let meaning = g.S.Schedule.meaning c.args.schedule.now in
     let v = view c.args.book.now in
-    let performed = c.post-day.ensures meaning in
+    let performed = c.post_day.ensures meaning in
     record { answers = answers_as meaning v c.in-PostDay.is _ (c.answered-in-PostDay.ensures ∙ ap (told (λ _. Done)) performed.answers); leaves = leaves_as meaning v c.in-PostDay.is _ performed.leaves }
 
 pub returns-in-PostPrice : goal.returns-in-PostPrice
 returns-in-PostPrice g c =
     let meaning = g.S.Schedule.meaning c.args.schedule.now in
     let v = view c.args.book.now in
-    let performed = c.post-price.ensures meaning in
+    let performed = c.post_price.ensures meaning in
     record { answers = answers_as meaning v c.in-PostPrice.is _ (c.answered-in-PostPrice.ensures ∙ ap (told (λ _. Done)) performed.answers); leaves = leaves_as meaning v c.in-PostPrice.is _ performed.leaves }
 
 pub returns-in-PostSchedule : goal.returns-in-PostSchedule
 returns-in-PostSchedule g c =
     let meaning = g.S.Schedule.meaning c.args.schedule.now in
     let v = view c.args.book.now in
-    let performed = c.post-schedule.ensures meaning in
+    let performed = c.post_schedule.ensures meaning in
     record { answers = answers_as meaning v c.in-PostSchedule.is _ (c.answered-in-PostSchedule.ensures ∙ ap (told (λ _. Done)) performed.answers); leaves = leaves_as meaning v c.in-PostSchedule.is _ performed.leaves }
 
 pub returns-in-Bill : goal.returns-in-Bill
@@ -78,7 +78,7 @@ pub returns-in-TrueUp : goal.returns-in-TrueUp
 returns-in-TrueUp g c =
     let meaning = g.S.Schedule.meaning c.args.schedule.now in
     let v = view c.args.book.now in
-    let performed = c.true-up.ensures in
+    let performed = c.true_up.ensures in
     record { answers = answers_as meaning v c.in-TrueUp.is _ (c.answered-in-TrueUp.ensures ∙ ap (told Written) performed.answers); leaves = leaves_as meaning v c.in-TrueUp.is _ performed.leaves }
 
 pub returns-in-Finalise : goal.returns-in-Finalise

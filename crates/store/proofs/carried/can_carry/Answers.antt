@@ -4,8 +4,8 @@ use Rattle.store.specs.Months.{top}
 use Rattle.store.proofs.Peaks.{le_top, top_least}
 use Rattle.store.proofs.carried.can_carry.Goals as goal
 
-pub returns-then-peak-gt-MOST-DEMAND : goal.returns-then-peak-gt-MOST-DEMAND
-returns-then-peak-gt-MOST-DEMAND c =
+pub returns-then-peak-gt-MOST_DEMAND : goal.returns-then-peak-gt-MOST_DEMAND
+returns-then-peak-gt-MOST_DEMAND c =
     let carried = c.args.carried.now in
     sym (and_right _ _ (lt-leb (top carried) 1000000 (omega (arith, le_top carried c.loop-peak.peak-index))))
 

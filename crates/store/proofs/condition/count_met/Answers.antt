@@ -10,13 +10,13 @@ module _ {X : Type 0} (meets : X → Bool) (xs : List X) (i : ℕ) (x : X) (here
   count_ends : false ≡ meets x → i + prefix_len meets (drop i xs) ≡ prefix_len meets xs → i ≡ prefix_len meets xs
   count_ends failed so_far = omega (arith, prefix_len-drop_no meets xs i x here (sym (failed ∙ ap meets is)))
 
-pub returns-then-not-is-met : goal.returns-then-not-is-met
-returns-then-not-is-met g c =
-    count_ends _ _ _ _ c.loop-i-test.true c.index-items-i.is c.if-not-is-met.ensures c.loop-i.invariant
+pub returns-then-not-is_met : goal.returns-then-not-is_met
+returns-then-not-is_met g c =
+    count_ends _ _ _ _ c.loop-i-test.true c.index-items-i.is c.if-not-is_met.ensures c.loop-i.invariant
 
 pub loop-i-preserved : goal.loop-i-preserved
 loop-i-preserved g c =
-    count_on _ _ _ _ c.loop-i-test.true c.index-items-i.is c.if-not-is-met.ensures c.loop-i.invariant
+    count_on _ _ _ _ c.loop-i-test.true c.index-items-i.is c.if-not-is_met.ensures c.loop-i.invariant
 
 pub returns : goal.returns
 returns g c =

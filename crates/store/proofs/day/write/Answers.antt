@@ -6,7 +6,7 @@ use Rattle.store.specs.Months.{reading_within}
 use Rattle.store.specs.Records.{reading_of}
 use Rattle.store.specs.declared.reading.Reading.{Reading}
 use Rattle.store.proofs.day.write.Goals as goal
-use Rattle.store.proofs.day.write.Goals.{in-Some, in-default}
+use Rattle.store.proofs.day.write.Goals.{in-Some, in_default}
 
 all_pass : {X : Type 0} (p : X → Bool) (xs : List X) (i : ℕ) (d : X) → prefix_len p xs ≡ length xs → i < length xs → p (get_or xs i d) ≡ true
 all_pass p [] i d all there = let none : ⊥ = omega arith in elim none [ ]
@@ -36,7 +36,7 @@ loop-i-preserved c =
           let more = ap (map reading_of) (take_more_set c.loop-i.quarters i quarter there) ∙ map_push reading_of (take i c.loop-i.quarters) quarter in
           let on_file = w.in-Some.ensures.1 in
           cc
-      | in-default w ↦ elim (both_ways _ w.in-default.ensures (all_pass reading_within readings i none c.requires.1 c.loop-i-test.true)) [ ]
+      | in_default w ↦ elim (both_ways _ w.in_default.ensures (all_pass reading_within readings i none c.requires.1 c.loop-i-test.true)) [ ]
     ]
 
 pub returns : goal.returns

@@ -9,12 +9,12 @@ use Rattle.book.proofs.Exits.{answers_refused, answers_taken, found_state, in_bo
 use Rattle.book.proofs.Priced.{amounts_are, no_fault}
 use Rattle.book.proofs.book.Book.due.Goals as goal
 
-pub returns-in-err-found : goal.returns-in-err-found
-returns-in-err-found g c =
+pub returns-in_err-found : goal.returns-in_err-found
+returns-in_err-found g c =
     let meaning = g.S.Schedule.meaning c.args.schedule.now in
     let m = c.args.month in
     let v = view c.args.self.now in
-    answers_refused meaning (asks_due m) c.args.self.now c.from-residual.result _ c.from-residual.ensures.1 (c.in-err-found.ensures (due_rows meaning m v))
+    answers_refused meaning (asks_due m) c.args.self.now c.from_residual.result _ c.from_residual.ensures.1 (c.in_err-found.ensures (due_rows meaning m v))
 
 pub returns : goal.returns
 unfolding altered_line
@@ -22,11 +22,11 @@ returns g c =
     let meaning = g.S.Schedule.meaning c.args.schedule.now in
     let m = c.args.month in
     let v = view c.args.self.now in
-    let is = c.in-ok-found.ensures in
-    let ok = c.in-ok-amounts.ensures in
-    let amounts = c.in-ok-amounts.amounts in
-    let billed : has_reached Billed m v ≡ true = found_state m v c.in-ok-found.found is Billed _ c.has_reached.ensures ∙ c.if-not-has-reached.false in
-    answers_taken meaning (asks_due m) c.args.self.now c.is-some.result
-    (in_book_passes m v c.in-ok-found.found is (due_rows meaning m v)
+    let is = c.in_ok-found.ensures in
+    let ok = c.in_ok-amounts.ensures in
+    let amounts = c.in_ok-amounts.amounts in
+    let billed : has_reached Billed m v ≡ true = found_state m v c.in_ok-found.found is Billed _ c.has_reached.ensures ∙ c.if-not-has_reached.false in
+    answers_taken meaning (asks_due m) c.args.self.now c.is_some.result
+    (in_book_passes m v c.in_ok-found.found is (due_rows meaning m v)
     ∙ pass (month_open m v) (past_limit meaning m v ∷ []) _ (rw billed refl) (pass (past_limit meaning m v) [] _ (no_fault meaning v m amounts ok) refl))
-    (c.is-some.ensures ∙ ap is_some (c.first_differing.ensures ∙ ap₂ first_differing (amounts_are meaning v m amounts ok) (ap (sums v.ledger) is.number)))
+    (c.is_some.ensures ∙ ap is_some (c.first_differing.ensures ∙ ap₂ first_differing (amounts_are meaning v m amounts ok) (ap (sums v.ledger) is.number)))

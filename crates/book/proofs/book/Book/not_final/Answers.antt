@@ -4,7 +4,7 @@ use Rattle.book.specs.Books.{view}
 use Rattle.book.specs.Table.{month_final}
 use Rattle.book.proofs.book.Book.not_final.Goals as goal
 
-pub returns-in-err-found : goal.returns-in-err-found
-returns-in-err-found c =
-    let p = err_from_is_err_and c.from-residual.result c.from-residual.ensures.1 in
-    rw (p.1, p.2) (λ rows. c.in-err-found.ensures (month_final c.args.month (view c.args.self.now) ∷ rows))
+pub returns-in_err-found : goal.returns-in_err-found
+returns-in_err-found c =
+    let p = err_from_is_err_and c.from_residual.result c.from_residual.ensures.1 in
+    rw (p.1, p.2) (λ rows. c.in_err-found.ensures (month_final c.args.month (view c.args.self.now) ∷ rows))

@@ -17,8 +17,8 @@ use Rattle.book.proofs.Exits.{is_refused, is_taken, first_holds, none_holds, pas
 use Rattle.book.proofs.Unbilled.{Unbilled, unbilled_started}
 use Rattle.book.proofs.book.Book.start.Goals as goal
 
-pub invariant-of-self : goal.invariant-of-self
-invariant-of-self c =
+pub invariant_of-self : goal.invariant_of-self
+invariant_of-self c =
     let book = c.args.self.now in
     let v = view book in
     let unbilled : Unbilled (months_of c.start.new.self) v.ledger =
@@ -67,4 +67,4 @@ module _ (meaning : Meaning) (book book' : Book) (days : ℕ) (point : Point) (o
 
 pub returns : goal.returns
 returns c meaning =
-    performs meaning c.args.self.now _ c.args.days c.in-ok-opened.field-0 c.in-ok-opened.ensures c.start.result c.start.ensures.result c.start.ensures.months c.start.ensures.refused (refl, refl) c.start.ensures.before c.start.ensures.capacity
+    performs meaning c.args.self.now _ c.args.days c.in_ok-opened.field-0 c.in_ok-opened.ensures c.start.result c.start.ensures.result c.start.ensures.months c.start.ensures.refused (refl, refl) c.start.ensures.before c.start.ensures.capacity

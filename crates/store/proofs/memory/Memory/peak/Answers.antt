@@ -9,6 +9,6 @@ returns c =
     let first = 2976 * c.args.k in
     let many : (first + 96 * c.args.days) - first ≡ 96 * c.args.days = omega arith in
     record {
-      counted = c.highest-of.ensures.counted ∙ ap (λ n. top (map (λ quarter. kw_of (reading_of quarter)) (take n (drop first c.args.self.now.quarters.now)))) many;
-      within = c.highest-of.ensures.within;
+      counted = c.highest_of.ensures.counted ∙ ap (λ n. top (map (λ quarter. kw_of (reading_of quarter)) (take n (drop first c.args.self.now.quarters.now)))) many;
+      within = c.highest_of.ensures.within;
     }

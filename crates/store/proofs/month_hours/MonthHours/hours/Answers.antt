@@ -6,8 +6,8 @@ use Rattle.store.specs.Rows.{rows_in}
 use Rattle.store.proofs.Each.{each_taken}
 use Rattle.store.proofs.month_hours.MonthHours.hours.Goals as goal
 
-pub invariant-of-result : goal.invariant-of-result
-invariant-of-result c =
+pub invariant_of-result : goal.invariant_of-result
+invariant_of-result c =
     let month = c.args.self.now in
     let few = month.few in
     let short : length (take (month.count - 0) month.rows) ≤ most_hours = simp length-take (omega arith) in

@@ -11,10 +11,10 @@ use Rattle.store.proofs.Stretches.{months_same}
 use Rattle.store.proofs.store.Store.carry.Goals as goal
 use Rattle.store.proofs.store.Store.carry.Goals.{then-back-carried, else-back-carried}
 
-pub invariant-of-self : goal.invariant-of-self
-invariant-of-self c =
+pub invariant_of-self : goal.invariant_of-self
+invariant_of-self c =
     let carried = c.args.carried.now in
-    let within : top carried ≤ 1000000 = leb-true (top carried) 1000000 (and_parts (leb (length carried) 24) (leb (top carried) 1000000) (sym c.if-not-can-carry.ensures)).1 in
+    let within : top carried ≤ 1000000 = leb-true (top carried) 1000000 (and_parts (leb (length carried) 24) (leb (top carried) 1000000) (sym c.if-not-can_carry.ensures)).1 in
     let peak : c.if-back-carried.peak ≤ 1000000 =
     elim c.if-back-carried.branch [
       | then-back-carried w ↦ omega (arith, w.peak-is, le_top carried (23 - c.loop-i.i))
@@ -51,7 +51,7 @@ returns c =
     let inv = c.loop-i.invariant in
     let carried = c.args.carried.now in
     record {
-      result = c.if-not-can-carry.ensures;
+      result = c.if-not-can_carry.ensures;
       before = λ yes.
           fill_by_all (λ i. get_or carried (24 - 1 - i) 0) (map (λ month. month.peak) (take 24 after.records)) 24 0
           (length-map (take 24 after.records) _ ∙ length-take-le 24 after.records (omega (arith, inv.4)))

@@ -17,13 +17,13 @@ returns c =
     let read = c.quarters.ensures.read in
     let month = get_or (months_of store) k no_month in
     let kw : (get_or store.records (ratchet + k) c.index-self-k.result).peak ≡ peak month = rw (record_at store c.requires k c.index-self-k.result here, getD_months store k no_month here) (sym (peak_kept store c.requires k here)) in
-    let kva : c.highest-of.result ≡ apparent month = c.highest-of.ensures.counted ∙ apparent_read month _ read in
+    let kva : c.highest_of.result ≡ apparent month = c.highest_of.ensures.counted ∙ apparent_read month _ read in
     record {
       there = rw (length_months store) here;
       kw = kw;
       kva = kva;
-      ratchet = c.highest-of-2.ensures.counted ∙ earlier_recorded store c.requires k here;
+      ratchet = c.highest_of-2.ensures.counted ∙ earlier_recorded store c.requires k here;
       ordered = rw (kw, kva) (peak_under_apparent month _ read);
-      limited = c.highest-of.ensures.within;
-      earlier_limited = c.highest-of-2.ensures.within;
+      limited = c.highest_of.ensures.within;
+      earlier_limited = c.highest_of-2.ensures.within;
     }

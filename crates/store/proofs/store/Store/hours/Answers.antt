@@ -23,5 +23,5 @@ rows_of_month month quarters hours rows read priced counted filled =
 pub returns : goal.returns
 unfolding rows_in
 returns c =
-    let hours = c.hours-on-file-hours in
-    rows_of_month _ _ hours.result.now _ c.quarters.ensures.read hours.ensures.read hours.ensures.counted c.fill-rows.ensures.filled
+    let hours = c.hours_on_file-hours in
+    rows_of_month _ _ hours.result.now _ c.quarters.ensures.read hours.ensures.read hours.ensures.counted c.fill_rows.ensures.filled

@@ -9,5 +9,5 @@ returns-then-k-self c = rw (month_past c.args.self.now c.requires c.args.k c.if-
 
 pub returns : goal.returns
 returns c =
-    let both = hours_read c.args.self.now c.requires c.args.k c.index-self-k.result c.if-k-self.false c.month-stretch.result.now c.month-stretch.ensures in
+    let both = hours_read c.args.self.now c.requires c.args.k c.index-self-k.result c.if-k-self.false c.month_stretch.result.now c.month_stretch.ensures in
     record { read = both.0; counted = both.1; few = omega (arith, both.1, days_limited c.args.self.now c.requires c.args.k c.index-self-k.result c.if-k-self.false) }

@@ -42,12 +42,12 @@ module _ (month : Month) (quarters : List Quarter) (read : ℕ) (readings : map 
 
 pub returns-then-read-quarters : goal.returns-then-read-quarters
 returns-then-read-quarters c =
-    missing_reading _ _ _ c.quarters-quarters.ensures.read c.count-met-read.ensures c.if-read-quarters.true
+    missing_reading _ _ _ c.quarters-quarters.ensures.read c.count_met-read.ensures c.if-read-quarters.true
 
 pub returns-then-priced-hours : goal.returns-then-priced-hours
 returns-then-priced-hours c =
-    missing_price _ _ _ c.quarters-quarters.ensures.read c.count-met-read.ensures _ _ c.if-read-quarters.false c.hours-on-file-hours.ensures.read c.count-met-priced.ensures c.if-priced-hours.true
+    missing_price _ _ _ c.quarters-quarters.ensures.read c.count_met-read.ensures _ _ c.if-read-quarters.false c.hours_on_file-hours.ensures.read c.count_met-priced.ensures c.if-priced-hours.true
 
 pub returns : goal.returns
 returns c =
-    none_missing _ _ _ c.quarters-quarters.ensures.read c.count-met-read.ensures _ _ c.if-read-quarters.false c.hours-on-file-hours.ensures.read c.count-met-priced.ensures c.if-priced-hours.false
+    none_missing _ _ _ c.quarters-quarters.ensures.read c.count_met-read.ensures _ _ c.if-read-quarters.false c.hours_on_file-hours.ensures.read c.count_met-priced.ensures c.if-priced-hours.false

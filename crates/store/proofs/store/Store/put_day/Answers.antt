@@ -18,13 +18,13 @@ good_day readings none =
 
 pub post-requires : goal.post-requires
 post-requires c =
-    let good = good_day c.args.readings.now c.in-default.ensures in
-    let started = c.days-of-days.ensures.there (omega arith) in
+    let good = good_day c.args.readings.now c.in_default.ensures in
+    let started = c.days_of-days.ensures.there (omega arith) in
     (omega (arith, good.0, started.0, c.requires.0.2), omega (arith, good.0, good.1))
 
 pub peak-peak-requires : goal.peak-peak-requires
 peak-peak-requires c =
-    let started = c.days-of-days.ensures.there (omega arith) in
+    let started = c.days_of-days.ensures.there (omega arith) in
     omega (arith, c.post.ensures.size, started.0, c.requires.0.2)
 
 pub returns-then-day-days : goal.returns-then-day-days
@@ -33,15 +33,15 @@ returns-then-day-days c =
     let store = c.args.self.now in
     let k = c.args.k in
     let readings = c.args.readings.now in
-    let good = good_day readings c.in-default.ensures in
-    let started = c.days-of-days.ensures.there (omega arith) in
+    let good = good_day readings c.in_default.ensures in
+    let started = c.days_of-days.ensures.there (omega arith) in
     let many = length-map readings Some in
     let written = c.post.ensures.quarters in
     let same = get_or_default store.records (24 + k) c.index-self-k.result first_record (omega arith) in
     let days = ap (λ m. m.days) same in
     let own = c.peak-peak.ensures.counted ∙ ap (peak_in c.post.new.self.quarters.now k) started.1 in
     record {
-      result = c.in-default.ensures;
+      result = c.in_default.ensures;
       months = λ yes. months_with_readings store c.requires k (96 * c.args.day) (map Some readings) (omega (arith, many, good.0)) c.post.new.self.quarters.now written _ _ readings started.0 refl (omega (arith, many, good.0, started.1)) days (ap (λ m. m.state) same) refl refl refl c.post.ensures.hours;
       refused = λ no. elim (false≢true no) [ ];
       before = before_kept store _ c.requires k _ (omega (arith, started.0, c.requires.0.1)) refl;
@@ -52,7 +52,7 @@ returns-then-day-days c =
 pub returns-else-day-days : goal.returns-else-day-days
 returns-else-day-days c =
     record {
-      result = c.in-default.ensures;
+      result = c.in_default.ensures;
       months = λ yes. sym (readings_past c.args.self.now c.requires c.args.k (96 * c.args.day) c.args.readings.now (omega arith));
       refused = λ no. refl;
       before = refl;

@@ -26,13 +26,13 @@ returns-then-self-capacity c =
       sound = c.requires;
     }
 
-pub returns-then-days-lt-LEAST-DAYS : goal.returns-then-days-lt-LEAST-DAYS
-returns-then-days-lt-LEAST-DAYS c =
+pub returns-then-days-lt-LEAST_DAYS : goal.returns-then-days-lt-LEAST_DAYS
+returns-then-days-lt-LEAST_DAYS c =
     let store = c.args.self.now in
     let days = c.args.days in
     let free = lt-leb (capacity_of store) (length (months_of store)) (omega (arith, length_months store, c.capacity.ensures)) in
     let outside : (ltb days 28 || ltb 31 days) ≡ true =
-    elim c.then-days-lt-LEAST-DAYS.either [
+    elim c.then-days-lt-LEAST_DAYS.either [
       | inl few ↦ or_left _ _ (lt-ltb days 28 few)
       | inr many ↦ or_right _ _ (lt-ltb 31 days many.1)
     ] in

@@ -2,5 +2,5 @@ use Rattle.std.proofs.Common.{subst}
 use Rattle.tariff.specs.Sheets.{FiguresWithin}
 use Rattle.rates.proofs.sts.sheet.StsDraft.seal.Goals as goal
 
-pub invariant-of-result : goal.invariant-of-result
-invariant-of-result c = (subst FiguresWithin c.figures.ensures c.in-Ok.ensures, tt)
+pub invariant_of-result : goal.invariant_of-result
+invariant_of-result c = (subst FiguresWithin c.figures.ensures c.in-Ok.ensures, tt)
