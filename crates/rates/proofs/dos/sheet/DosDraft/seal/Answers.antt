@@ -3,4 +3,4 @@ use Rattle.tariff.specs.Sheets.{FiguresWithin}
 use Rattle.rates.proofs.dos.sheet.DosDraft.seal.Goals as goal
 
 pub invariant_of-result : goal.invariant_of-result
-invariant_of-result c = (subst FiguresWithin c.figures.ensures c.in-Ok.ensures, tt)
+invariant_of-result c = record { within = subst FiguresWithin c.figures.ensures c.in-Ok.ensures }
