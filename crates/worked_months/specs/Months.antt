@@ -12,7 +12,6 @@ use Rattle.rates.specs.Xts.{xts_2007, xts_meaning}
 use Rattle.riders.specs.Credit.{credit_added, psc_2009}
 use Rattle.riders.specs.Percent.{percent_added}
 use Rattle.riders.specs.Riders.{over}
-use Rattle.riders.specs.declared.percent.sheet.PercentDraft.{PercentDraft}
 
 -- a month's billing capacity, or the cents of one line under a schedule of some meaning
 pub data Worked : Type 0 where
