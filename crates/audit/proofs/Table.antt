@@ -1,6 +1,6 @@
 -- A step leaves the book as it is where a row of the table holds; else it makes of it what the call does, and no row holds.
 use Rattle.std.proofs.Common.{◌≡◌, ℕ, ◌≤◌, Bool, true, false, cond, not, leb, List, [], ◌∷◌, length, is_some, Some, None, Option, refl}
-use Rattle.std.specs.List.{AllByRecursion as All}
+use Rattle.std.specs.List.{AllByRecursion}
 use Rattle.std.proofs.lemmas.Bool.{and_parts, leb-true, ltb-false, not-false}
 use Rattle.book.specs.Calls.{Call, Post, opens, starts, posts, bills, trues_up, finalises}
 use Rattle.book.specs.Steps.{after, step, taken}
@@ -16,7 +16,7 @@ row_passed : (holds : Bool) (refusal : Refusal) (rest : Option Refusal) → cond
 row_passed true refusal rest e = (cc, cc)
 row_passed false refusal rest e = (refl, e)
 
-none_holds : (rows : List Row) → first_holding rows ≡ None → All (λ r. r.holds ≡ false) rows
+none_holds : (rows : List Row) → first_holding rows ≡ None → AllByRecursion (λ r. r.holds ≡ false) rows
 none_holds [] e = tt
 none_holds (r ∷ rs) e = let passed = row_passed r.holds r.refusal (first_holding rs) e in (passed.0, none_holds rs passed.1)
 

@@ -1,6 +1,6 @@
 -- How a call ends: refused by a row, or taken.
 use Rattle.std.proofs.Common.{◌≡◌, ℕ, ◌+◌, ◌<◌, ◌≤◌, Bool, true, false, not, List, [], ◌∷◌, ◌++◌, is_some, IsErrAnd, Some, None, Ok, Err, Option, Result, sym, refl, ap, ◌∙◌, arith}
-use Rattle.std.specs.List.{AllByRecursion as All}
+use Rattle.std.specs.List.{AllByRecursion}
 use Rattle.std.proofs.lemmas.Result.{err_from_is_err_and}
 use Rattle.std.proofs.lemmas.Bool.{and_parts, cond-true, cond-false, false≢true, le-ltb, leb-true, lt-ltb}
 use Rattle.ledger.specs.declared.entry.Entry.{Entry}
@@ -26,11 +26,11 @@ pub here : (row : Row) (rows : List Row) → row.holds ≡ true → first_holdin
 here row rows held = cond-true row.holds (Some row.refusal) (first_holding rows) held
 
 -- no row holds, or one after others that do not
-pub none_holds : (rows : List Row) → All (λ row. row.holds ≡ false) rows → first_holding rows ≡ None
+pub none_holds : (rows : List Row) → AllByRecursion (λ row. row.holds ≡ false) rows → first_holding rows ≡ None
 none_holds [] all = refl
 none_holds (row ∷ rows) all = pass row rows None all.0 (none_holds rows all.1)
 
-pub first_holds : (before : List Row) (held : Row) (after : List Row) → All (λ row. row.holds ≡ false) before → held.holds ≡ true → first_holding (before ++ held ∷ after) ≡ Some held.refusal
+pub first_holds : (before : List Row) (held : Row) (after : List Row) → AllByRecursion (λ row. row.holds ≡ false) before → held.holds ≡ true → first_holding (before ++ held ∷ after) ≡ Some held.refusal
 first_holds [] held after all is = here held after is
 first_holds (row ∷ before) held after all is = pass row (before ++ held ∷ after) _ all.0 (first_holds before held after all.1 is)
 

@@ -1,7 +1,7 @@
 -- The worked months hold: one test of a row, computed over the whole list, and what it tells.
 use Rattle.std.proofs.Common.{◌≡◌, ℕ, ◌-◌, Bool, true, false, ◌&&◌, eqb, List, [], ◌∷◌, get_or, ℤ, pos, Ok, Err, refl, arith}
 use lib.Signed.{le_z}
-use Rattle.std.specs.List.{AllByRecursion as All}
+use Rattle.std.specs.List.{AllByRecursion}
 use Rattle.std.proofs.lemmas.Int.{ints}
 use Rattle.std.proofs.lemmas.Bool.{and_parts, eqb-true, both_ways}
 use Rattle.tariff.specs.Capacity.{billing_capacity}
@@ -38,11 +38,11 @@ every : List Worked → Bool
 every [] = true
 every (w ∷ rows) = test w && every rows
 
-every_tells : (rows : List Worked) → every rows ≡ true → All Holds rows
+every_tells : (rows : List Worked) → every rows ≡ true → AllByRecursion Holds rows
 unfolding every
 every_tells [] e = tt
 every_tells (w ∷ rows) e = let both = and_parts (test w) (every rows) e in (test_tells w both.0, every_tells rows both.1)
 
-pub all_hold : All Holds worked_months
+pub all_hold : AllByRecursion Holds worked_months
 unfolding every test says billing_capacity total rounded nearest excess_kva sum_of credits
 all_hold = every_tells worked_months refl
