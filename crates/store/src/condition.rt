@@ -12,7 +12,7 @@ pub(crate) trait Condition<T> {
 
 // How many items stand before the first one that fails a condition.
 pub(crate) fn count_met<T, C: Condition<T>>(items: &[T], condition: &C) -> usize
-    ensures { result ≡ prefix_len (meets condition.now) items.now }
+    ensures { result ≡ prefix_len (C.meets condition.now) items.now }
 {
     for (i, item) in items.iter().enumerate() {
         if !condition.is_met(item) {

@@ -63,7 +63,7 @@ impl<T, F: Figure<T>> Order<T> for By<F> {
 
 // The highest figure of a run of items, 0 for an empty run.
 pub(crate) fn highest_of<T, F: Figure<T>>(run: &[T]) -> u32
-    ensures counted { result ≡ top (map figure run.now) }
+    ensures counted { result ≡ top (map F.figure run.now) }
     ensures within { result ≤ most_demand }
 {
     match highest::<T, By<F>>(run) {

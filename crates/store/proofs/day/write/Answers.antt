@@ -26,7 +26,7 @@ loop-i-preserved c =
     let i = c.loop-i.i in
     let readings = c.args.readings.now in
     let none : Reading = record { kw = 0; kva = 0 } in
-    let there : i < length c.loop-i.quarters = omega (arith, c.loop-i.auto.quarters, c.requires.0) in
+    let there : i < length c.loop-i.quarters = omega (arith, c.loop-i.auto.quarters, c.requires.quarters_len) in
     let so_far : map reading_of (take i c.loop-i.quarters) ≡ map Some (take i readings) = c.loop-i.invariant in
     let read = map_more Some readings i none c.loop-i-test.true in
     elim c.match-holding.branch [
@@ -36,11 +36,11 @@ loop-i-preserved c =
           let more = ap (map reading_of) (take_more_set c.loop-i.quarters i quarter there) ∙ map_push reading_of (take i c.loop-i.quarters) quarter in
           let on_file = w.in-Some.ensures.1 in
           cc
-      | in_default w ↦ elim (both_ways _ w.in_default.ensures (all_pass reading_within readings i none c.requires.1 c.loop-i-test.true)) [ ]
+      | in_default w ↦ elim (both_ways _ w.in_default.ensures (all_pass reading_within readings i none c.requires.readings_len c.loop-i-test.true)) [ ]
     ]
 
 pub returns : goal.returns
 returns c =
     let all = c.loop-i-test.false in
     let inv : map reading_of (take c.loop-i.i c.loop-i.quarters) ≡ map Some (take c.loop-i.i c.args.readings.now) = c.loop-i.invariant in
-    rw (take_all c.loop-i.i c.loop-i.quarters (omega (arith, c.loop-i.auto.quarters, c.requires.0)), take_all c.loop-i.i c.args.readings.now all) at inv
+    rw (take_all c.loop-i.i c.loop-i.quarters (omega (arith, c.loop-i.auto.quarters, c.requires.quarters_len)), take_all c.loop-i.i c.args.readings.now all) at inv

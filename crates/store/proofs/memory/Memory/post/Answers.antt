@@ -12,7 +12,7 @@ returns c =
     let posted = map Some c.args.readings.now in
     let many : length part ≡ length c.args.readings.now = sym (length-map part reading_of) ∙ ap length c.write.ensures ∙ length-map c.args.readings.now Some in
     let n = (c.args.first + length c.args.readings.now) - c.args.first in
-    let written = map_putMid reading_of old part c.args.first n posted c.write.ensures (omega arith) (omega (arith, c.requires.0)) in
+    let written = map_putMid reading_of old part c.args.first n posted c.write.ensures (omega arith) (omega (arith, c.requires.readings_in_bounds)) in
     record {
       quarters = written;
       size = same_length reading_of old (put_mid c.args.first n old part) c.args.first posted written;

@@ -11,7 +11,7 @@ invariant_of-result c =
     let month = c.args.self.now in
     let few = month.few in
     let short : length (take (month.count - 0) month.rows) ≤ most_hours = simp length-take (omega arith) in
-    (each_taken HourWithin no_hour (lit≤ tt, lit≤ tt, lit≤ tt) _ month.rows month.within, (short, tt))
+    record { within = each_taken HourWithin no_hour (lit≤ tt, lit≤ tt, lit≤ tt) _ month.rows month.within; few = short }
 
 pub returns : goal.returns
 unfolding rows_in

@@ -17,7 +17,7 @@ invariant_of-self c =
     let within : top carried ≤ 1000000 = leb-true (top carried) 1000000 (and_parts (leb (length carried) 24) (leb (top carried) 1000000) (sym c.if-not-can_carry.ensures)).1 in
     let peak : c.if-back-carried.peak ≤ 1000000 =
     elim c.if-back-carried.branch [
-      | then-back-carried w ↦ omega (arith, w.peak-is, le_top carried (23 - c.loop-i.i))
+      | then-back-carried w ↦ omega (arith, w.peak-is, le_top carried)
       | else-back-carried w ↦ omega (arith, w.peak-is)
     ] in
     λ d. ((get_or c.loop-i.self.records c.loop-i.i d).length, (peak, tt))

@@ -20,7 +20,7 @@ pub post-requires : goal.post-requires
 post-requires c =
     let good = good_day c.args.readings.now c.in_default.ensures in
     let started = c.days_of-days.ensures.there (omega arith) in
-    (omega (arith, good.0, started.0, c.requires.0.2), omega (arith, good.0, good.1))
+    record { readings_in_bounds = omega (arith, good.0, started.0, c.requires.0.2); readings_len = omega (arith, good.0, good.1) }
 
 pub peak-peak-requires : goal.peak-peak-requires
 peak-peak-requires c =
