@@ -72,8 +72,8 @@ pub(crate) fn perform<S: Schedule>(
     schedule: &S,
     request: Request<'_>,
 ) -> Answer
-    ensures answers { result ≡ shown (call_of request.entry) (answer (meaning schedule.now) (call_of request.entry) (view book.old)) }
-    ensures leaves { view book.new ≡ step (meaning schedule.now) (call_of request.entry) (view book.old) }
+    ensures answers { result ≡ shown (call_of request.entry) (answer (S.meaning schedule.now) (call_of request.entry) (view book.old)) }
+    ensures leaves { view book.new ≡ step (S.meaning schedule.now) (call_of request.entry) (view book.old) }
 {
     match request {
         Request::Open {

@@ -42,7 +42,7 @@ impl Book<'_> {
         schedule: &S,
     ) -> Result<Amounts, Refusal>
         requires { InBook month (view self.now) found.now }
-        ensures { plain result ≡ refused_in month (priced (meaning schedule.now) (view self.now) month) }
+        ensures { plain result ≡ refused_in month (priced (S.meaning schedule.now) (view self.now) month) }
     {
         let facts = self.facts(month, found);
         let month_hours = self.store.hours(found.at);

@@ -12,7 +12,7 @@ use tariff::{LINES, Refusal, Schedule};
 impl Book<'_> {
     // Whether pricing the file now would alter any line's sum.
     pub fn due<S: Schedule>(&self, month: u32, schedule: &S) -> Result<bool, Refusal>
-        ensures { Answers (meaning schedule.now) (asks_due month) self.now result }
+        ensures { Answers (S.meaning schedule.now) (asks_due month) self.now result }
     {
         let found = self.found(month)?;
         if !found.state.has_reached(State::Billed) {

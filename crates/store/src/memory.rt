@@ -42,8 +42,8 @@ impl Memory<'_> {
 
     // Marks the quarters and the hours of the month at a place, of so many days, as never posted.
     pub(crate) fn clear(&mut self, k: usize, days: usize)
-        requires days_in_bounds { 2976 * k + 96 * days ≤ length self.old.quarters.now }
-        requires days_in_bounds_2 { 744 * k + 24 * days ≤ length self.old.hours.now }
+        requires quarters_in_bounds { 2976 * k + 96 * days ≤ length self.old.quarters.now }
+        requires hours_in_bounds { 744 * k + 24 * days ≤ length self.old.hours.now }
         ensures quarters { map reading_of self.new.quarters.now ≡ sets (map reading_of self.old.quarters.now) (2976 * k) (replicate (96 * days) None) }
         ensures hours { map hour_of self.new.hours.now ≡ sets (map hour_of self.old.hours.now) (744 * k) (replicate (24 * days) (record { price = None; scheduled = 0 })) }
         ensures sizes { (length self.new.quarters.now ≡ length self.old.quarters.now) × (length self.new.hours.now ≡ length self.old.hours.now) }

@@ -48,7 +48,7 @@ returns-then-days-lt-LEAST_DAYS c =
 pub clear-requires : goal.clear-requires
 clear-requires c =
     let has = room c.args.self.now (omega (arith, c.capacity.ensures)) in
-    record { days_in_bounds = omega (arith, has.1); days_in_bounds_2 = omega (arith, has.2) }
+    record { quarters_in_bounds = omega (arith, has.1); hours_in_bounds = omega (arith, has.2) }
 
 pub listed : goal.listed
 listed c = omega (arith, (room c.args.self.now (omega (arith, c.capacity.ensures))).0, c.requires.0.0)
