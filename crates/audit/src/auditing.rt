@@ -27,7 +27,7 @@ pub fn audit<'a, 'd, S: Schedule, A: Analyst<'d>>(
     analyst: &mut A,
     turns: usize,
 ) -> Book<'a>
-    ensures made { Made chooses (S.meaning schedule.now) turns analyst.old (capacity (length quarters.old) (length hours.old)) (length entries.old) analyst.new (view result) }
+    ensures made { Made A.chooses (S.meaning schedule.now) turns analyst.old (capacity (length quarters.old) (length hours.old)) (length entries.old) analyst.new (view result) }
     ensures ordered { (call : Call) (v : View) → InOrder (rows (S.meaning schedule.now) call v) }
     ensures promise { Promise (S.meaning schedule.now) }
 {

@@ -59,7 +59,7 @@ impl Reply for i64 {
 }
 
 fn answered<T: Reply>(outcome: Result<T, Refusal>) -> Answer
-    ensures { result ≡ told shows outcome }
+    ensures { result ≡ told T.shows outcome }
 {
     match outcome {
         Ok(reply) => reply.into_answer(),

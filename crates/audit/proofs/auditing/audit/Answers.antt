@@ -43,7 +43,7 @@ loop-turn-preserved g c left w calls is b rest =
 pub returns-in_default : goal.returns-in_default
 returns-in_default g c =
     let meaning = g.S.Schedule.meaning c.args.schedule.now in
-    let left = c.args.turns - (c.loop-turn.-turn + 1) in
+    let left = c.args.turns - (c.loop-turn._turn + 1) in
     let all = c.loop-turn.invariant (suc left) (view c.loop-turn.book) [] (omega arith) c.next.new.self (stops c.in_default.ensures) in
     record { made = made_by g.A.Analyst.chooses meaning _ _ c.new-book.ensures all.1; ordered = in_order meaning; promise = promised meaning }
 

@@ -8,4 +8,4 @@ use Rattle.audit.proofs.auditing.audit.Given as goal
 -- however the turns that are left go on, the whole is an audit from where it began
 abbrev pub invariant-loop-turn : goal.invariant-loop-turn
 invariant-loop-turn g l =
-    (left : ℕ) (w : View) (calls : List Call) → left + l.-turn ≡ l.turns → (b : _) → Audited g.A.Analyst.chooses (g.S.Schedule.meaning l.schedule) left l.analyst l.last (view l.book) calls b w → (all : List Call) × Audited g.A.Analyst.chooses (g.S.Schedule.meaning l.schedule) l.turns l.initial.analyst l.initial.last (view l.initial.book) all b w
+    (left : ℕ) (w : View) (calls : List Call) → left + l._turn ≡ l.turns → (b : _) → Audited g.A.Analyst.chooses (g.S.Schedule.meaning l.schedule) left l.analyst l.last (view l.book) calls b w → (all : List Call) × Audited g.A.Analyst.chooses (g.S.Schedule.meaning l.schedule) l.turns l.initial.analyst l.initial.last (view l.initial.book) all b w
