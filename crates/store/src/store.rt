@@ -26,7 +26,7 @@ pub(crate) const DAY_QUARTERS: usize = 96;
 pub(crate) const DAY_HOURS: usize = 24;
 
 // The months started in the lent memory, with the peaks of the months before them. A store is kept
-// sound by whoever holds it: with this kit a struct that holds one by value could not be made if
+// sound by whoever holds it: with kit 8b a struct that holds one by value could not be made if
 // that were a fact of its type.
 #[derive(Drop)]
 pub struct Store<'a> {
