@@ -6,7 +6,7 @@ use Rattle.book.specs.Steps.{answer, answered}
 use Rattle.book.specs.Table.{fault_in, is_fault}
 use Rattle.book.specs.Views.{View, altered_line, amounts_in, priced, sums_of}
 use Rattle.ledger.specs.Entries.{first_differing, line_sum}
-use Rattle.ledger.proofs.Sums.{first_differing_none, first_differing_some, getD_sums, length_sums}
+use Rattle.ledger.proofs.Sums.{first_differing_none, first_differing_some, get_or_sums, length_sums}
 use Rattle.tariff.specs.Limits.{line_count}
 use Rattle.tariff.specs.Pricing.{Meaning}
 use Rattle.tariff.specs.declared.refusal.Refusal.TheVariants.{LinePastLimit}
@@ -87,7 +87,7 @@ unfolding altered_line
 due_decides meaning v m then now e sums =
     let decided = differs line_count (amounts_in (priced meaning v m)) (sums_of v m) (length_amounts (priced meaning v m) (ap is_fault e)) (length_sums v.ledger m) in
     let amount : (i : ℕ) → i < line_count → get_or (amounts_in (priced meaning v m)) i (pos 0) ≡ get_or now i (pos 0) = λ i here. amounts_line (priced meaning v m) now i e here in
-    let sum : (i : ℕ) → i < line_count → get_or (sums_of v m) i (pos 0) ≡ get_or then i (pos 0) = λ i here. getD_sums v.ledger m i here ∙ sums i here in (
+    let sum : (i : ℕ) → i < line_count → get_or (sums_of v m) i (pos 0) ≡ get_or then i (pos 0) = λ i here. get_or_sums v.ledger m i here ∙ sums i here in (
       λ some. let line = decided.0 some in (line.0, line.1, λ same. line.2 (amount line.0 line.1 ∙ same ∙ sym (sum line.0 line.1))),
       λ line. decided.1 (line.0, line.1, λ same. line.2 (sym (amount line.0 line.1) ∙ same ∙ sum line.0 line.1)),
     )

@@ -6,7 +6,7 @@ use Rattle.book.specs.Steps.{answer}
 use Rattle.book.specs.Table.{is_fault}
 use Rattle.book.specs.Views.{View, amounts_in, has_reached, month_at, priced}
 use Rattle.ledger.specs.Entries.{line_sum}
-use Rattle.ledger.proofs.Sums.{getD_sums}
+use Rattle.ledger.proofs.Sums.{get_or_sums}
 use Rattle.store.specs.Months.{reached}
 use Rattle.store.specs.declared.state.State.TheVariants.{Billed}
 use Rattle.tariff.specs.Limits.{line_count}
@@ -42,7 +42,7 @@ module _ (meaning : Meaning) (run : Run) (m : ℕ) (billed : IsBilled m (laws.re
 -- a line of a month that is not due is what the month is priced at now
 current : (meaning : Meaning) (v : View) (m : ℕ) → Sound meaning v → IsBilled m v → answer meaning (asks_due m) v ≡ Ok false → (i : ℕ) → i < line_count → line_sum v.ledger m (i + 1) ≡ get_or (amounts_in (priced meaning v m)) i (pos 0)
 current meaning v m sound billed answers i here =
-    sym (getD_sums v.ledger m i here) ∙ ap (λ xs. get_or xs i (pos 0)) (sym (not_due meaning v m sound billed answers))
+    sym (get_or_sums v.ledger m i here) ∙ ap (λ xs. get_or xs i (pos 0)) (sym (not_due meaning v m sound billed answers))
 
 -- as many readings are those of as many days
 same_days : (meaning other : Meaning) (v w : View) (m n : ℕ) → Sound meaning v → Sound other w → 1 ≤ m → 1 ≤ n → (month_at m v).readings ≡ (month_at n w).readings → (month_at m v).days ≡ (month_at n w).days

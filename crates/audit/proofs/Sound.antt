@@ -11,7 +11,7 @@ use Rattle.book.specs.Views.{View, altered_line, blank, has_reached, month_at, p
 use Rattle.ledger.specs.Entries.{entries_for, line_sum, sums}
 use Rattle.ledger.specs.declared.entry.Entry.{Entry}
 use Rattle.ledger.specs.declared.entry.Letter.{Letter}
-use Rattle.ledger.proofs.Sums.{entries_other_month, getD_sums, length_sums, line_sum_append, line_sum_none}
+use Rattle.ledger.proofs.Sums.{entries_other_month, get_or_sums, length_sums, line_sum_append, line_sum_none}
 use Rattle.store.specs.Months.{Month, aged, fresh, no_month, peak, ratchet, reached, with_state}
 use Rattle.store.specs.declared.state.State.TheVariants.{Billed, Final}
 use Rattle.tariff.specs.Limits.{line_count}
@@ -49,7 +49,7 @@ sums_from one two m same =
     ext_get_or (pos 0) (sums one m) (sums two m) (length_sums one m ∙ sym (length_sums two m))
     (λ i here.
     let few : i < line_count = omega (arith, length_sums one m) in
-    getD_sums one m i few ∙ same (i + 1) ∙ sym (getD_sums two m i few))
+    get_or_sums one m i few ∙ same (i + 1) ∙ sym (get_or_sums two m i few))
 
 pub written_elsewhere : (letter : Letter) (ledger : List Entry) (m : ℕ) (cents : List ℤ) (n l : ℕ) → n ≢ m → line_sum (ledger ++ entries_for letter m cents) n l ≡ line_sum ledger n l
 written_elsewhere letter ledger m cents n l other =

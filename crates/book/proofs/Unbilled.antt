@@ -7,7 +7,7 @@ use Rattle.ledger.specs.Ledgers.{written_or}
 use Rattle.ledger.specs.declared.entry.Entry.{Entry}
 use Rattle.ledger.specs.declared.entry.Letter.{Letter}
 use Rattle.ledger.specs.declared.entry.Letter.TheVariants.{Bill, TrueUp}
-use Rattle.ledger.proofs.Sums.{differences_none, getD_sums, length_sums, written_other_month}
+use Rattle.ledger.proofs.Sums.{differences_none, get_or_sums, length_sums, written_other_month}
 use Rattle.store.specs.Months.{Month, altered, fresh, no_month, reached, with_state}
 use Rattle.store.specs.declared.state.State.TheVariants.{Billed}
 use Rattle.tariff.specs.Limits.{line_count}
@@ -24,7 +24,7 @@ module _ (months : List Month) (entries : List Entry) (unbilled : Unbilled month
       (differences_none amounts (sums entries m)
       (λ k.
       elim (cases_lt k line_count) [
-        | inl here ↦ getD_sums entries m k here ∙ ap (λ n. line_sum entries n (k + 1)) is ∙ unbilled at opened (k + 1)
+        | inl here ↦ get_or_sums entries m k here ∙ ap (λ n. line_sum entries n (k + 1)) is ∙ unbilled at opened (k + 1)
         | inr past ↦ get_or_past (sums entries m) k (pos 0) (rw (length_sums entries m) past)
       ]))
 

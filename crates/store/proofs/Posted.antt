@@ -15,7 +15,7 @@ use Rattle.store.specs.declared.state.State.{State}
 use Rattle.store.specs.declared.state.State.TheVariants.{Open}
 use Rattle.store.specs.declared.store.Store.{Store}
 use Rattle.store.proofs.Peaks.{top_replicate, top_set_over, top_set_under}
-use Rattle.store.proofs.Stretches.{altered_alike, getD_months, getD_stretch, length_months, length_stretch, map-replicate, months_altered, months_pushed, sets_past, stretch_cleared, stretch_map, stretch_set, stretch_set_other, stretch_sets, stretch_sets_other}
+use Rattle.store.proofs.Stretches.{altered_alike, get_or_months, get_or_stretch, length_months, length_stretch, map-replicate, months_altered, months_pushed, sets_past, stretch_cleared, stretch_map, stretch_set, stretch_set_other, stretch_sets, stretch_sets_other}
 
 abbrev pub record_at : Store → ℕ → MonthRecord
 record_at s k = get_or s.records (ratchet + k) first_record
@@ -61,7 +61,7 @@ months_length s sound k =
     elim (cases_lt k s.started) [
       | inl there ↦
           let days = (record_at s k).days in
-          let months = getD_months s k no_month there ∙ month_parts s k _ _ _ _ refl refl refl refl in
+          let months = get_or_months s k no_month there ∙ month_parts s k _ _ _ _ refl refl refl refl in
           let quarters = length_stretch 2976 k (quarters_of days) (readings_in s) (rw length-map (omega (arith, (record_at s k).length.1))) in
           let hours = length_stretch 744 k (hours_of days) (hours_in s) (rw length-map (omega (arith, (record_at s k).length.1))) in
           (rw months quarters, rw months hours)
@@ -83,7 +83,7 @@ module _ (s t : Store) (sound : Sound s) (k at : ℕ) (there : k < s.started) (b
   pub old_hour : (d : Hour) → get_or (month_of s k).hours at (record { price = None; scheduled = 0 }) ≡ hour_of (get_or s.memory.hours.now (744 * k + at) d)
   old_hour d =
       let months = month_parts s k _ _ _ _ refl refl refl refl in
-      rw months (getD_stretch 744 k (hours_of (record_at s k).days) (hours_in s) at _ below
+      rw months (get_or_stretch 744 k (hours_of (record_at s k).days) (hours_in s) at _ below
       ∙ get_or-map hour_of s.memory.hours.now (744 * k + at) d _ (omega (arith, (record_at s k).length.1)))
 
   pub months_with_hour : (alter : Month → Month) (hour : Hour) → t.started ≡ s.started → t.records ≡ s.records → t.memory.quarters.now ≡ s.memory.quarters.now → t.memory.hours.now ≡ set s.memory.hours.now (744 * k + at) hour → alter (month_of s k) ≡ record { days = (month_of s k).days; state = (month_of s k).state; readings = (month_of s k).readings; hours = set (month_of s k).hours at (hour_of hour) } → months_of t ≡ altered k alter (months_of s)
@@ -222,7 +222,7 @@ module _ (quarters : List Quarter) (k days at : ℕ) (posted : Quarter) (below :
   unfolding peak_in kw_in
   peak_under d low under =
       let old = get_or-map (λ quarter. kw_of (reading_of quarter)) (stretch 2976 k (quarters_of days) quarters) at d 0 (rw (length_stretch 2976 k (quarters_of days) quarters there) below) in
-      let read = ap (λ quarter. kw_of (reading_of quarter)) (getD_stretch 2976 k (quarters_of days) quarters at d below) in
+      let read = ap (λ quarter. kw_of (reading_of quarter)) (get_or_stretch 2976 k (quarters_of days) quarters at d below) in
       peak_set ∙ top_set_under kw_in at (kw_of (reading_of posted)) (rw (old ∙ read) low) under
 
 -- a month started

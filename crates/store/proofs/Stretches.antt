@@ -32,9 +32,9 @@ module _ {X : Type 0} where
   unfolding stretch
   length_stretch room k n xs there = simp (length-take, length-drop) (omega arith)
 
-  pub getD_stretch : (room k n : ℕ) (xs : List X) (i : ℕ) (d : X) → i < n → get_or (stretch room k n xs) i d ≡ get_or xs (room * k + i) d
+  pub get_or_stretch : (room k n : ℕ) (xs : List X) (i : ℕ) (d : X) → i < n → get_or (stretch room k n xs) i d ≡ get_or xs (room * k + i) d
   unfolding stretch
-  getD_stretch room k n xs i d below = get_or-take n (drop (room * k) xs) i d below ∙ get_or-drop (room * k) xs i d
+  get_or_stretch room k n xs i d below = get_or-take n (drop (room * k) xs) i d below ∙ get_or-drop (room * k) xs i d
 
   pub stretch_same : (room k n : ℕ) (xs ys : List X) → room * k + n ≤ length xs → room * k + n ≤ length ys → ((i : ℕ) (d : X) → i < n → get_or xs (room * k + i) d ≡ get_or ys (room * k + i) d) → stretch room k n xs ≡ stretch room k n ys
   stretch_same room k n xs ys in_xs in_ys same =
@@ -42,7 +42,7 @@ module _ {X : Type 0} where
       let ly = length_stretch room k n ys in_ys in
       same_lists _ _ (lx ∙ sym ly) (λ i d h.
       let below : i < n = omega (arith, lx) in
-      getD_stretch room k n xs i d below ∙ same i d below ∙ sym (getD_stretch room k n ys i d below))
+      get_or_stretch room k n xs i d below ∙ same i d below ∙ sym (get_or_stretch room k n ys i d below))
 
   -- one place written, in another month and in the month's own
   pub stretch_set_other : (room j k n : ℕ) (xs : List X) (at : ℕ) (v : X) → j ≢ k → n ≤ room → at < room → room * j + n ≤ length xs → stretch room j n (set xs (room * k + at) v) ≡ stretch room j n xs
@@ -56,7 +56,7 @@ module _ {X : Type 0} where
       let long' = length_stretch room k n (set xs (room * k + at) v) (simp length-set there) in
       same_lists _ _ (long' ∙ sym long ∙ sym (length-set (stretch room k n xs) at v)) (λ i d h.
       let in_n : i < n = omega (arith, long') in
-      let written = getD_stretch room k n (set xs (room * k + at) v) i d in_n in
+      let written = get_or_stretch room k n (set xs (room * k + at) v) i d in_n in
       elim (cases_eq i at) [
         | inl same ↦
             let own = get_or-set_same (stretch room k n xs) at v d (omega arith) in
@@ -65,7 +65,7 @@ module _ {X : Type 0} where
         | inr other ↦
             let own = get_or-set_other (stretch room k n xs) at i v d other in
             let place = get_or-set_other xs (room * k + at) (room * k + i) v d (λ e. other (omega arith)) in
-            let read = getD_stretch room k n xs i d in_n in
+            let read = get_or_stretch room k n xs i d in_n in
             cc
       ])
 
@@ -102,8 +102,8 @@ map-replicate f zero v = refl
 map-replicate f (suc n) v = ap (λ ys. f v ∷ ys) (map-replicate f n v)
 
 -- a part written as a whole
-pub map_putMid : {X Y : Type 0} (f : X → Y) (xs ys : List X) (a n : ℕ) (vs : List Y) → map f ys ≡ vs → length ys ≡ n → a + n ≤ length xs → map f (put_mid a n xs ys) ≡ sets (map f xs) a vs
-map_putMid f xs ys a n vs are many fits =
+pub map_put_mid : {X Y : Type 0} (f : X → Y) (xs ys : List X) (a n : ℕ) (vs : List Y) → map f ys ≡ vs → length ys ≡ n → a + n ≤ length xs → map f (put_mid a n xs ys) ≡ sets (map f xs) a vs
+map_put_mid f xs ys a n vs are many fits =
     let new : length vs ≡ n = sym (ap length are) ∙ length-map ys f ∙ many in
     let put = put_mid-paste a n xs ys ys n refl refl (sym many) ∙ paste_all xs a ys n (sym many) in
     let wrote = sets-eq vs (map f xs) a (rw (new, length-map) fits) in
@@ -120,30 +120,30 @@ pub length_months : (s : Store) → length (months_of s) ≡ s.started
 unfolding months_of
 length_months s = length-map-range_with_len (month_of s) 0 s.started
 
-pub getD_months : (s : Store) (k : ℕ) (d : Month) → k < s.started → get_or (months_of s) k d ≡ month_of s k
+pub get_or_months : (s : Store) (k : ℕ) (d : Month) → k < s.started → get_or (months_of s) k d ≡ month_of s k
 unfolding months_of
-getD_months s k d below = get_or-map-range_with_len (month_of s) 0 s.started k k d below (omega arith)
+get_or_months s k d below = get_or-map-range_with_len (month_of s) 0 s.started k k d below (omega arith)
 
 pub months_same : (s t : Store) → t.started ≡ s.started → ((j : ℕ) → j < s.started → month_of t j ≡ month_of s j) → months_of t ≡ months_of s
 months_same s t started same =
     ext_get_or no_month _ _ (length_months t ∙ started ∙ sym (length_months s)) (λ j h.
     let below : j < s.started = omega (arith, length_months t) in
-    getD_months t j no_month (omega arith) ∙ same j below ∙ sym (getD_months s j no_month below))
+    get_or_months t j no_month (omega arith) ∙ same j below ∙ sym (get_or_months s j no_month below))
 
 -- one month altered, and none past the last
 pub months_altered : (s t : Store) (k : ℕ) (alter : Month → Month) → t.started ≡ s.started → k < s.started → month_of t k ≡ alter (month_of s k) → ((j : ℕ) → j < s.started → j ≢ k → month_of t j ≡ month_of s j) → months_of t ≡ altered k alter (months_of s)
 months_altered s t k alter started there own others =
-    let known = getD_months s k no_month there in
+    let known = get_or_months s k no_month there in
     ext_get_or no_month _ _ (length_months t ∙ started ∙ sym (length_months s) ∙ sym (length-set (months_of s) k (alter (get_or (months_of s) k no_month)))) (λ j h.
     let below : j < s.started = omega (arith, length_months t) in
-    let new = getD_months t j no_month (omega arith) in
+    let new = get_or_months t j no_month (omega arith) in
     elim (cases_eq j k) [
       | inl same ↦
           let place = get_or-set_same (months_of s) k (alter (get_or (months_of s) k no_month)) no_month (omega (arith, length_months s)) in
           cc
       | inr other ↦
           let place = get_or-set_other (months_of s) k j (alter (get_or (months_of s) k no_month)) no_month other in
-          let old = getD_months s j no_month below in
+          let old = get_or_months s j no_month below in
           let kept = others j below other in
           cc
     ])

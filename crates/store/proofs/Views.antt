@@ -13,7 +13,7 @@ use Rattle.store.specs.declared.quarter.Hour.{Hour}
 use Rattle.store.specs.declared.quarter.Quarter.{Quarter}
 use Rattle.store.specs.declared.state.State.{State}
 use Rattle.store.specs.declared.store.Store.{Store}
-use Rattle.store.proofs.Stretches.{getD_months, length_months, length_stretch}
+use Rattle.store.proofs.Stretches.{get_or_months, length_months, length_stretch}
 use Rattle.store.proofs.Windows.{leading_map, part_counted, take_counted, take_two, window}
 
 module _ (store : Store) (sound : Sound store) where
@@ -32,18 +32,18 @@ module _ (store : Store) (sound : Sound store) where
     quarters_read quarters is =
         let month = get_or store.records (ratchet + k) first_record in
         let longest = month.length.1 in
-        rw (getD_months store k no_month here, is, record_at k d here) (refl, length_stretch 2976 k (quarters_of month.days) store.memory.quarters.now (omega arith))
+        rw (get_or_months store k no_month here, is, record_at k d here) (refl, length_stretch 2976 k (quarters_of month.days) store.memory.quarters.now (omega arith))
 
     pub hours_read : (hours : List Hour) → hours ≡ stretch 744 k (hours_of (get_or store.records (ratchet + k) d).days) store.memory.hours.now → (map hour_of hours ≡ (get_or (months_of store) k no_month).hours) × (length hours ≡ hours_of (get_or (months_of store) k no_month).days)
     unfolding month_of
     hours_read hours is =
         let month = get_or store.records (ratchet + k) first_record in
         let longest = month.length.1 in
-        rw (getD_months store k no_month here, is, record_at k d here) (refl, length_stretch 744 k (hours_of month.days) store.memory.hours.now (omega arith))
+        rw (get_or_months store k no_month here, is, record_at k d here) (refl, length_stretch 744 k (hours_of month.days) store.memory.hours.now (omega arith))
 
     pub days_limited : (get_or (months_of store) k no_month).days ≤ 31
     unfolding month_of
-    days_limited = rw (getD_months store k no_month here) (get_or store.records (ratchet + k) first_record).length.1
+    days_limited = rw (get_or_months store k no_month here) (get_or store.records (ratchet + k) first_record).length.1
 
   -- the first month short of a state, by the records
   pub first_short_counted : (state : State) (k n : ℕ) → n ≡ min store.started k → prefix_len (λ month. reached state month.state) (take (ratchet + n - ratchet) (drop ratchet store.records)) ≡ first_short state (months_of store) k
@@ -64,7 +64,7 @@ module _ (store : Store) (sound : Sound store) where
   peaks_kept =
       let kept : ℕ → ℕ = λ j. (get_or store.records (ratchet + j) first_record).peak in
       fill_by_all kept (map peak (months_of store)) store.started 0 (length-map (months_of store) peak ∙ length_months store)
-      (λ k here. get_or-map peak (months_of store) k no_month 0 (rw (length_months store) here) ∙ (ap peak (getD_months store k no_month here) ∙ peak_kept k here))
+      (λ k here. get_or-map peak (months_of store) k no_month 0 (rw (length_months store) here) ∙ (ap peak (get_or_months store k no_month here) ∙ peak_kept k here))
       ∙ sym (ap (map (λ month. month.peak)) (part_counted store.records ratchet store.started first_record (omega arith)) ∙ map-map _ _ _)
 
   pub peaks_recorded : before_of store ++ map peak (months_of store) ≡ map (λ month. month.peak) (take (ratchet + store.started) store.records)

@@ -3,7 +3,7 @@ use borrow.Rule.Slice.PartMut.{put_mid}
 use lib.Seq.{sets}
 use Rattle.std.proofs.lemmas.List.{length-drop, length-replicate, length-take}
 use Rattle.store.specs.Records.{hour_of, reading_of}
-use Rattle.store.proofs.Stretches.{map_putMid, map-replicate, same_length}
+use Rattle.store.proofs.Stretches.{map_put_mid, map-replicate, same_length}
 use Rattle.store.proofs.memory.Memory.clear.Goals as goal
 
 -- a part of n places from a on, filled with one value
@@ -12,7 +12,7 @@ filled f xs part a n v are fits =
     let m = length (take ((a + n) - a) (drop a xs)) in
     let same : m ≡ n = simp (length-take, length-drop) (omega arith) in
     let long : length part ≡ n = ap length are ∙ length-replicate m v ∙ same in
-    let written = map_putMid f xs part a ((a + n) - a) (replicate n (f v)) (ap (map f) are ∙ map-replicate f m v ∙ ap (λ k. replicate k (f v)) same) (omega arith) (omega arith) in
+    let written = map_put_mid f xs part a ((a + n) - a) (replicate n (f v)) (ap (map f) are ∙ map-replicate f m v ∙ ap (λ k. replicate k (f v)) same) (omega arith) (omega arith) in
     (written, same_length f xs (put_mid a ((a + n) - a) xs part) a (replicate n (f v)) written)
 
 pub returns : goal.returns

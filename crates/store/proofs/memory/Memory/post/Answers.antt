@@ -2,7 +2,7 @@ use Rattle.std.proofs.Common.{◌≡◌, ◌+◌, ◌-◌, map, length, Some, sy
 use borrow.Rule.Slice.PartMut.{put_mid}
 use Rattle.std.proofs.lemmas.List.{length-map}
 use Rattle.store.specs.Records.{reading_of}
-use Rattle.store.proofs.Stretches.{map_putMid, same_length}
+use Rattle.store.proofs.Stretches.{map_put_mid, same_length}
 use Rattle.store.proofs.memory.Memory.post.Goals as goal
 
 pub returns : goal.returns
@@ -12,7 +12,7 @@ returns c =
     let posted = map Some c.args.readings.now in
     let many : length part ≡ length c.args.readings.now = sym (length-map part reading_of) ∙ ap length c.write.ensures ∙ length-map c.args.readings.now Some in
     let n = (c.args.first + length c.args.readings.now) - c.args.first in
-    let written = map_putMid reading_of old part c.args.first n posted c.write.ensures (omega arith) (omega (arith, c.requires.readings_in_bounds)) in
+    let written = map_put_mid reading_of old part c.args.first n posted c.write.ensures (omega arith) (omega (arith, c.requires.readings_in_bounds)) in
     record {
       quarters = written;
       size = same_length reading_of old (put_mid c.args.first n old part) c.args.first posted written;

@@ -4,7 +4,7 @@ use Rattle.store.specs.Months.{no_month}
 use Rattle.store.specs.Records.{first_record}
 use Rattle.store.specs.Stores.{month_of, months_of}
 use Rattle.store.proofs.Posted.{no_days}
-use Rattle.store.proofs.Stretches.{getD_months, length_months}
+use Rattle.store.proofs.Stretches.{get_or_months, length_months}
 use Rattle.store.proofs.store.Store.days_of.Goals as goal
 
 pub returns-then-k-self : goal.returns-then-k-self
@@ -14,7 +14,7 @@ returns-then-k-self c =
     let there = c.if-k-self.true in
     let read = ap (λ m. m.days) (get_or_default store.records (24 + c.args.k) c.index-self-k.result first_record (omega arith)) in
     record {
-      months = read ∙ sym (ap (λ m. m.days) (getD_months store c.args.k no_month there));
+      months = read ∙ sym (ap (λ m. m.days) (get_or_months store c.args.k no_month there));
       within = omega (arith, read, (get_or store.records (24 + c.args.k) first_record).length.1);
       there = λ some. (there, read);
     }

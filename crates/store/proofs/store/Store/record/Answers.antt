@@ -3,7 +3,7 @@ use Rattle.std.proofs.lemmas.List.{get_or_default}
 use Rattle.store.specs.Months.{no_month}
 use Rattle.store.specs.Records.{first_record}
 use Rattle.store.specs.Stores.{month_of}
-use Rattle.store.proofs.Stretches.{getD_months, length_months}
+use Rattle.store.proofs.Stretches.{get_or_months, length_months}
 use Rattle.store.proofs.store.Store.record.Goals as goal
 
 pub returns-then-k-self : goal.returns-then-k-self
@@ -11,7 +11,7 @@ unfolding month_of
 returns-then-k-self c =
     let store = c.args.self.now in
     let there : c.args.k < store.started = c.if-k-self.true in
-    let known = getD_months store c.args.k no_month there in
+    let known = get_or_months store c.args.k no_month there in
     let read = get_or_default store.records (24 + c.args.k) c.index-self-k.result first_record (omega arith) in
     (omega (arith, length_months store), ap (λ m. m.days) read ∙ sym (ap (λ m. m.days) known), ap (λ m. m.state) read ∙ sym (ap (λ m. m.state) known))
 
