@@ -1,5 +1,6 @@
 pub mod Capacity
 pub mod Limits
+pub mod Lines
 pub mod Money
 pub mod Pricing
 pub mod Refusals

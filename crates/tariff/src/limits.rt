@@ -1,5 +1,5 @@
 // Items that have limits, and the first of a list outside its own.
-ghost use Rattle.std.specs.Prelude.{Decides};
+ghost use Rattle.std.specs.Prelude.{◌<◌, Decides, length, MatchOption};
 ghost use Rattle.tariff.specs.Limits.{Front};
 
 // The most that a kW, a kVA or a pool price can be.
@@ -14,14 +14,9 @@ pub(crate) trait Bounded {
         ensures { Decides result (bounds self.now) };
 }
 
-// How many items stand before the first one outside its limits.
-pub(crate) fn count_within<T: Bounded>(items: &[T]) -> usize
-    ensures { Front T.bounds items.now result }
+// The place of the first item outside its limits.
+pub(crate) fn first_outside<T: Bounded>(items: &[T]) -> Option<usize>
+    ensures { MatchOption result (Front T.bounds items.now (length items.now)) (λ n. Front T.bounds items.now n × (n < length items.now)) }
 {
-    for (i, item) in items.iter().enumerate() {
-        if !item.is_within() {
-            return i;
-        }
-    }
-    items.len()
+    items.iter().position(|item| !item.is_within())
 }

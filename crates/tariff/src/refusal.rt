@@ -2,13 +2,14 @@
 ghost use Rattle.std.specs.Prelude.{◌≡◌, Some};
 ghost use Rattle.tariff.specs.Refusals.{numbers_of, refusal_text};
 
+use crate::line::Line;
 use std::error::Error;
 use std::fmt;
 
 // A line that a schedule cannot price, and the rider that carried it past its limit (0 for none).
 #[derive(Clone, Copy, PartialEq, Eq, Debug)]
 pub struct Fault {
-    pub line: u8,
+    pub line: Line,
     pub rider: u16,
 }
 
@@ -81,7 +82,7 @@ impl Refusal {
             Refusal::MonthBilled { month } => (12, month, 0, 0),
             Refusal::MonthOpen { month } => (13, month, 0, 0),
             Refusal::EarlierMonth { month, place } => (14, month, place, 0),
-            Refusal::LinePastLimit { month, fault } => (15, month, fault.line as u64, fault.rider),
+            Refusal::LinePastLimit { month, fault } => (15, month, fault.line.number() as u64, fault.rider),
             Refusal::LedgerFull { month, place } => (16, month, place, 0),
             Refusal::MonthDue { month, place } => (17, month, place, 0),
             Refusal::FigureOutside { place } => (18, 0, place, 0),

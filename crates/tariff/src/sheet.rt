@@ -1,9 +1,11 @@
 // What sealing a sheet checks.
-ghost use Rattle.std.specs.Prelude.{◌≡◌, MatchResult};
+ghost use Rattle.std.specs.Prelude.{◌≡◌, List, MatchResult};
 ghost use Rattle.tariff.specs.Sheets.{FigureWithin, FiguresWithin, RefusedFigure};
+ghost use Rattle.tariff.specs.declared.sheet.Figure.{Figure as Limited};
 
-use crate::limits::{Bounded, count_within};
+use crate::limits::{Bounded, first_outside};
 use crate::refusal::Refusal;
+use std::alloc::AllocError;
 
 // A figure of a sheet with the limits within which it can be sealed.
 #[derive(Clone, Copy)]
@@ -32,13 +34,11 @@ impl Figure {
     pub fn check(figures: &[Figure]) -> Result<(), Refusal>
         ensures { MatchResult result (λ _. FiguresWithin figures.now) (RefusedFigure figures.now) }
     {
-        let within = count_within(figures);
-        if within < figures.len() {
-            Err(Refusal::FigureOutside {
+        match first_outside(figures) {
+            Some(within) => Err(Refusal::FigureOutside {
                 place: within as u64 + 1,
-            })
-        } else {
-            Ok(())
+            }),
+            None => Ok(()),
         }
     }
 }
@@ -55,5 +55,58 @@ impl<D: Drop> From<Unsealed<D>> for Refusal {
 
     fn from(unsealed: Unsealed<D>) -> Refusal {
         unsealed.refusal
+    }
+}
+
+// The figures of a sheet that is still being filled in, any numbers.
+pub trait Draft: Copy {
+    // each figure in its order with its limits
+    ghost listed: { Self → List Limited };
+
+    // Refused where a figure is outside its limits, with the place of the first such, from 1.
+    fn check(&self) -> Result<(), Refusal>
+        ensures { MatchResult result (λ _. FiguresWithin (listed self.now)) (RefusedFigure (listed self.now)) };
+
+    // The draft as it was, with the reason why it was not sealed.
+    fn unsealed(self, refusal: Refusal) -> Unsealed<Self>
+        ensures { (result.draft ≡ self) × (result.refusal ≡ refusal) }
+    {
+        Unsealed {
+            refusal,
+            draft: self,
+        }
+    }
+
+    // Refused where a figure is outside its limits; the draft comes back as it was.
+    final fn seal(self) -> Result<Sealed<Self>, Unsealed<Self>>
+        ensures { MatchResult result (λ sheet. sheet.figures ≡ self) (λ unsealed. (unsealed.draft ≡ self) × RefusedFigure (listed self) unsealed.refusal) }
+    {
+        match self.check() {
+            Ok(()) => Ok(Sealed { figures: self }),
+            Err(refusal) => Err(self.unsealed(refusal)),
+        }
+    }
+}
+
+// A sealed sheet: its figures lie within their limits and stay as they are.
+pub struct Sealed<D: Draft> {
+    figures: D,
+    ghost within: { FiguresWithin (D.listed figures) },
+}
+
+impl<D: Draft> Copy for Sealed<D> {}
+
+// By hand, since a struct with a ghost field and a type parameter has no derived copy.
+impl<D: Draft> Clone for Sealed<D> {
+    fn clone(&self) -> Result<Sealed<D>, AllocError> {
+        Ok(*self)
+    }
+}
+
+impl<D: Draft> Sealed<D> {
+    pub fn figures(&self) -> &D
+        ensures { result.now ≡ self.now.figures }
+    {
+        &self.figures
     }
 }
