@@ -82,7 +82,10 @@ impl Refusal {
             Refusal::MonthBilled { month } => (12, month, 0, 0),
             Refusal::MonthOpen { month } => (13, month, 0, 0),
             Refusal::EarlierMonth { month, place } => (14, month, place, 0),
-            Refusal::LinePastLimit { month, fault } => (15, month, fault.line.number() as u64, fault.rider),
+            Refusal::LinePastLimit {
+                month,
+                fault: Fault { line, rider },
+            } => (15, month, line.number().into(), rider),
             Refusal::LedgerFull { month, place } => (16, month, place, 0),
             Refusal::MonthDue { month, place } => (17, month, place, 0),
             Refusal::FigureOutside { place } => (18, 0, place, 0),
