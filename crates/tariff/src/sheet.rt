@@ -105,7 +105,8 @@ impl<D: Draft> Clone for Sealed<D> {
 
 impl<D: Draft> Sealed<D> {
     pub fn figures(&self) -> &D
-        ensures { result.now ≡ self.now.figures }
+        ensures figures { result.now ≡ self.now.figures }
+        ensures within { FiguresWithin (D.listed result.now) }
     {
         &self.figures
     }

@@ -1,9 +1,8 @@
 // The sheet of rate DOS 7 Minutes.
-ghost use Rattle.std.specs.Prelude.{◌≡◌, ℕ, MatchResult, slice_index_or};
-ghost use Rattle.tariff.specs.Sheets.{FigureWithin, RefusedFigure, no_figure};
+ghost use Rattle.std.specs.Prelude.{◌≡◌};
 ghost use Rattle.rates.specs.Dos.{dos_2009, dos_figures};
 
-use tariff::{Figure, Unsealed};
+use tariff::{Draft, Figure, Refusal, Sealed};
 
 // The published figures; capacity and loss factor are the customer's own.
 pub const DOS_2009_ENERGY: i64 = 528;
@@ -21,12 +20,7 @@ pub struct DosDraft {
     pub loss_factor: i64,
 }
 
-// A sealed sheet: its figures lie within their limits and stay as they are.
-#[derive(Clone, Copy)]
-pub struct DosSheet {
-    pub(super) figures: DosDraft,
-    ghost within: { (k : ℕ) → FigureWithin (slice_index_or (dos_figures figures) k no_figure) },
-}
+pub type DosSheet = Sealed<DosDraft>;
 
 impl DosDraft {
     // The published figures with a customer's own capacity and loss factor.
@@ -51,17 +45,12 @@ impl DosDraft {
             Figure::between(-10_000, 10_000, self.loss_factor),
         ]
     }
+}
 
-    // Refused where a figure is outside its limits; the draft comes back as it was.
-    pub fn seal(self) -> Result<DosSheet, Unsealed<DosDraft>>
-        ensures { MatchResult result (λ sheet. sheet.figures ≡ self) (λ unsealed. (unsealed.draft ≡ self) × RefusedFigure (dos_figures self) unsealed.refusal) }
-    {
-        match Figure::check(&self.figures()) {
-            Ok(()) => Ok(DosSheet { figures: self }),
-            Err(refusal) => Err(Unsealed {
-                refusal,
-                draft: self,
-            }),
-        }
+impl Draft for DosDraft {
+    ghost listed = { dos_figures };
+
+    fn check(&self) -> Result<(), Refusal> {
+        Figure::check(&self.figures())
     }
 }

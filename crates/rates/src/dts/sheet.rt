@@ -1,9 +1,8 @@
 // The sheet of rate DTS, which rate GTS has too.
-ghost use Rattle.std.specs.Prelude.{◌≡◌, ℕ, MatchResult, slice_index_or};
-ghost use Rattle.tariff.specs.Sheets.{FigureWithin, RefusedFigure, no_figure};
+ghost use Rattle.std.specs.Prelude.{◌≡◌};
 ghost use Rattle.rates.specs.Dts.{dts_2007, dts_figures, gts_2007};
 
-use tariff::{Figure, Unsealed};
+use tariff::{Draft, Figure, Refusal, Sealed};
 
 // The figures of a sheet that is still being filled in, any numbers. Cents per MW or MVA of
 // demand, per MWh of energy, per month (delivery_fixed), and hundredths of a percent of the
@@ -42,12 +41,7 @@ pub const GTS_2007: DtsDraft = DtsDraft {
     power_factor: 40_000,
 };
 
-// A sealed sheet: its figures lie within their limits and stay as they are.
-#[derive(Clone, Copy)]
-pub struct DtsSheet {
-    pub(super) figures: DtsDraft,
-    ghost within: { (k : ℕ) → FigureWithin (slice_index_or (dts_figures figures) k no_figure) },
-}
+pub type DtsSheet = Sealed<DtsDraft>;
 
 impl DtsDraft {
     pub fn dts_2007() -> DtsDraft
@@ -76,17 +70,12 @@ impl DtsDraft {
             Figure::between(0, 10_000_000, self.power_factor),
         ]
     }
+}
 
-    // Refused where a figure is outside its limits; the draft comes back as it was.
-    pub fn seal(self) -> Result<DtsSheet, Unsealed<DtsDraft>>
-        ensures { MatchResult result (λ sheet. sheet.figures ≡ self) (λ unsealed. (unsealed.draft ≡ self) × RefusedFigure (dts_figures self) unsealed.refusal) }
-    {
-        match Figure::check(&self.figures()) {
-            Ok(()) => Ok(DtsSheet { figures: self }),
-            Err(refusal) => Err(Unsealed {
-                refusal,
-                draft: self,
-            }),
-        }
+impl Draft for DtsDraft {
+    ghost listed = { dts_figures };
+
+    fn check(&self) -> Result<(), Refusal> {
+        Figure::check(&self.figures())
     }
 }

@@ -1,9 +1,8 @@
 // The sheet of rate STS.
-ghost use Rattle.std.specs.Prelude.{◌≡◌, ℕ, MatchResult, slice_index_or};
-ghost use Rattle.tariff.specs.Sheets.{FigureWithin, RefusedFigure, no_figure};
+ghost use Rattle.std.specs.Prelude.{◌≡◌};
 ghost use Rattle.rates.specs.Sts.{sts_2009, sts_figures};
 
-use tariff::{Figure, Unsealed};
+use tariff::{Draft, Figure, Refusal, Sealed};
 
 // The published figure; loss factor and rating are the customer's own.
 pub const STS_2009_UNIT_CONNECTION: i64 = 25_900;
@@ -18,12 +17,7 @@ pub struct StsDraft {
     pub unit_connection: i64,
 }
 
-// A sealed sheet: its figures lie within their limits and stay as they are.
-#[derive(Clone, Copy)]
-pub struct StsSheet {
-    pub(super) figures: StsDraft,
-    ghost within: { (k : ℕ) → FigureWithin (slice_index_or (sts_figures figures) k no_figure) },
-}
+pub type StsSheet = Sealed<StsDraft>;
 
 impl StsDraft {
     // The published figure with a customer's own loss factor and unit rating.
@@ -46,17 +40,12 @@ impl StsDraft {
             Figure::between(0, 10_000_000, self.unit_connection),
         ]
     }
+}
 
-    // Refused where a figure is outside its limits; the draft comes back as it was.
-    pub fn seal(self) -> Result<StsSheet, Unsealed<StsDraft>>
-        ensures { MatchResult result (λ sheet. sheet.figures ≡ self) (λ unsealed. (unsealed.draft ≡ self) × RefusedFigure (sts_figures self) unsealed.refusal) }
-    {
-        match Figure::check(&self.figures()) {
-            Ok(()) => Ok(StsSheet { figures: self }),
-            Err(refusal) => Err(Unsealed {
-                refusal,
-                draft: self,
-            }),
-        }
+impl Draft for StsDraft {
+    ghost listed = { sts_figures };
+
+    fn check(&self) -> Result<(), Refusal> {
+        Figure::check(&self.figures())
     }
 }

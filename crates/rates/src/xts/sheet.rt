@@ -1,9 +1,8 @@
 // The sheet of rate XTS.
-ghost use Rattle.std.specs.Prelude.{◌≡◌, ℕ, MatchResult, slice_index_or};
-ghost use Rattle.tariff.specs.Sheets.{FigureWithin, RefusedFigure, no_figure};
+ghost use Rattle.std.specs.Prelude.{◌≡◌};
 ghost use Rattle.rates.specs.Xts.{xts_2007, xts_figures};
 
-use tariff::{Figure, Unsealed};
+use tariff::{Draft, Figure, Refusal, Sealed};
 
 // The figures of a sheet that is still being filled in, any numbers. Cents per MWh, and
 // hundredths of a percent of the pool price (operating_reserve).
@@ -22,12 +21,7 @@ pub const XTS_2007: XtsDraft = XtsDraft {
     other_support: 10,
 };
 
-// A sealed sheet: its figures lie within their limits and stay as they are.
-#[derive(Clone, Copy)]
-pub struct XtsSheet {
-    pub(super) figures: XtsDraft,
-    ghost within: { (k : ℕ) → FigureWithin (slice_index_or (xts_figures figures) k no_figure) },
-}
+pub type XtsSheet = Sealed<XtsDraft>;
 
 impl XtsDraft {
     pub fn published_2007() -> XtsDraft
@@ -46,17 +40,12 @@ impl XtsDraft {
             Figure::between(0, 100_000, self.other_support),
         ]
     }
+}
 
-    // Refused where a figure is outside its limits; the draft comes back as it was.
-    pub fn seal(self) -> Result<XtsSheet, Unsealed<XtsDraft>>
-        ensures { MatchResult result (λ sheet. sheet.figures ≡ self) (λ unsealed. (unsealed.draft ≡ self) × RefusedFigure (xts_figures self) unsealed.refusal) }
-    {
-        match Figure::check(&self.figures()) {
-            Ok(()) => Ok(XtsSheet { figures: self }),
-            Err(refusal) => Err(Unsealed {
-                refusal,
-                draft: self,
-            }),
-        }
+impl Draft for XtsDraft {
+    ghost listed = { xts_figures };
+
+    fn check(&self) -> Result<(), Refusal> {
+        Figure::check(&self.figures())
     }
 }
