@@ -1,38 +1,40 @@
 -- The worked months hold: one test of a row, computed over the whole list, and what it tells.
-use Rattle.std.proofs.Common.{◌≡◌, ℕ, ◌-◌, Bool, true, false, ◌&&◌, eqb, List, [], ◌∷◌, get_or, ℤ, pos, Ok, Err, refl, arith}
+use Rattle.std.proofs.Common.{◌≡◌, Bool, true, false, ◌&&◌, eqb, List, [], ◌∷◌, get_or, ℤ, pos, Ok, Err, refl, arith}
 use lib.Signed.{le_z}
 use Rattle.std.specs.List.{AllByRecursion}
 use Rattle.std.proofs.lemmas.Int.{ints}
 use Rattle.std.proofs.lemmas.Bool.{and_parts, eqb-true, both_ways}
 use Rattle.tariff.specs.Capacity.{billing_capacity}
+use Rattle.tariff.specs.Lines.{place_of}
 use Rattle.tariff.specs.Pricing.{Outcome}
 use Rattle.tariff.specs.Rounding.{nearest, rounded}
 use Rattle.tariff.specs.Totals.{total}
+use Rattle.tariff.specs.declared.line.Line.{Line}
 use Rattle.rates.specs.Dts.{excess_kva}
 use Rattle.riders.specs.Credit.{credits}
 use Rattle.riders.specs.Percent.{sum_of}
 use Rattle.worked_months.specs.Months.{Worked, capacity, line, Says, Holds, worked_months}
 
-says : ℕ → ℤ → Outcome → Bool
-says n cents (Ok amounts) = let found = get_or amounts (n - 1) (pos 0) in le_z found cents && le_z cents found
-says n cents (Err fault) = false
+says : Line → ℤ → Outcome → Bool
+says l cents (Ok amounts) = let found = get_or amounts (place_of l) (pos 0) in le_z found cents && le_z cents found
+says l cents (Err fault) = false
 
 test : Worked → Bool
 test (capacity month tenths) = eqb (billing_capacity month) tenths
-test (line meaning month hours n cents) = says n cents (meaning month hours)
+test (line meaning month hours l cents) = says l cents (meaning month hours)
 
-says_tells : (n : ℕ) (cents : ℤ) (outcome : Outcome) → says n cents outcome ≡ true → Says n cents outcome
+says_tells : (l : Line) (cents : ℤ) (outcome : Outcome) → says l cents outcome ≡ true → Says l cents outcome
 unfolding says
-says_tells n cents (Ok amounts) e =
-    let found = get_or amounts (n - 1) (pos 0) in
+says_tells l cents (Ok amounts) e =
+    let found = get_or amounts (place_of l) (pos 0) in
     let both = and_parts (le_z found cents) (le_z cents found) e in
     omega (arith, ints, both.0, both.1)
-says_tells n cents (Err fault) e = both_ways false refl e
+says_tells l cents (Err fault) e = both_ways false refl e
 
 test_tells : (w : Worked) → test w ≡ true → Holds w
 unfolding test
 test_tells (capacity month tenths) e = eqb-true (billing_capacity month) tenths e
-test_tells (line meaning month hours n cents) e = says_tells n cents (meaning month hours) e
+test_tells (line meaning month hours l cents) e = says_tells l cents (meaning month hours) e
 
 every : List Worked → Bool
 every [] = true

@@ -1,9 +1,8 @@
 // The sheet of a Primary Service Credit.
-ghost use Rattle.std.specs.Prelude.{◌≡◌, ℕ, MatchResult, slice_index_or};
-ghost use Rattle.tariff.specs.Sheets.{FigureWithin, RefusedFigure, no_figure};
+ghost use Rattle.std.specs.Prelude.{◌≡◌};
 ghost use Rattle.riders.specs.Credit.{credit_figures, psc_2009};
 
-use tariff::{Figure, Unsealed};
+use tariff::{Draft, Figure, Refusal, Sealed};
 
 // The rider's number and its figures, any numbers: cents per MW in each band of billing
 // capacity, and cents per month.
@@ -27,12 +26,7 @@ pub const PSC_2009: CreditDraft = CreditDraft {
     fixed: 386_700,
 };
 
-// A sealed sheet: its figures lie within their limits and stay as they are.
-#[derive(Clone, Copy)]
-pub struct CreditSheet {
-    pub(super) figures: CreditDraft,
-    ghost within: { (k : ℕ) → FigureWithin (slice_index_or (credit_figures figures) k no_figure) },
-}
+pub type CreditSheet = Sealed<CreditDraft>;
 
 impl CreditDraft {
     // The published figures under a buyer's own number.
@@ -56,17 +50,12 @@ impl CreditDraft {
             Figure::between(0, 10_000_000, self.fixed),
         ]
     }
+}
 
-    // Refused where a figure is outside its limits; the draft comes back as it was.
-    pub fn seal(self) -> Result<CreditSheet, Unsealed<CreditDraft>>
-        ensures { MatchResult result (λ sheet. sheet.figures ≡ self) (λ unsealed. (unsealed.draft ≡ self) × RefusedFigure (credit_figures self) unsealed.refusal) }
-    {
-        match Figure::check(&self.figures()) {
-            Ok(()) => Ok(CreditSheet { figures: self }),
-            Err(refusal) => Err(Unsealed {
-                refusal,
-                draft: self,
-            }),
-        }
+impl Draft for CreditDraft {
+    ghost listed = { credit_figures };
+
+    fn check(&self) -> Result<(), Refusal> {
+        Figure::check(&self.figures())
     }
 }

@@ -1,9 +1,8 @@
 // The sheet of an energy rider.
-ghost use Rattle.std.specs.Prelude.{◌≡◌, ℕ, MatchResult, slice_index_or};
-ghost use Rattle.tariff.specs.Sheets.{FigureWithin, RefusedFigure, no_figure};
+ghost use Rattle.std.specs.Prelude.{◌≡◌};
 ghost use Rattle.riders.specs.Energy.{energy_figures};
 
-use tariff::{Figure, Unsealed};
+use tariff::{Draft, Figure, Refusal, Sealed};
 
 // The rider's number and its rate in cents per MWh, any numbers.
 #[derive(Clone, Copy)]
@@ -12,12 +11,7 @@ pub struct EnergyDraft {
     pub rate: i64,
 }
 
-// A sealed sheet: its figures lie within their limits and stay as they are.
-#[derive(Clone, Copy)]
-pub struct EnergySheet {
-    pub(super) figures: EnergyDraft,
-    ghost within: { (k : ℕ) → FigureWithin (slice_index_or (energy_figures figures) k no_figure) },
-}
+pub type EnergySheet = Sealed<EnergyDraft>;
 
 impl EnergyDraft {
     fn figures(&self) -> [Figure; 2]
@@ -28,17 +22,12 @@ impl EnergyDraft {
             Figure::between(-100_000, 100_000, self.rate),
         ]
     }
+}
 
-    // Refused where a figure is outside its limits; the draft comes back as it was.
-    pub fn seal(self) -> Result<EnergySheet, Unsealed<EnergyDraft>>
-        ensures { MatchResult result (λ sheet. sheet.figures ≡ self) (λ unsealed. (unsealed.draft ≡ self) × RefusedFigure (energy_figures self) unsealed.refusal) }
-    {
-        match Figure::check(&self.figures()) {
-            Ok(()) => Ok(EnergySheet { figures: self }),
-            Err(refusal) => Err(Unsealed {
-                refusal,
-                draft: self,
-            }),
-        }
+impl Draft for EnergyDraft {
+    ghost listed = { energy_figures };
+
+    fn check(&self) -> Result<(), Refusal> {
+        Figure::check(&self.figures())
     }
 }

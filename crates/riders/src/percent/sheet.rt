@@ -1,9 +1,8 @@
 // The sheet of a percent rider.
-ghost use Rattle.std.specs.Prelude.{◌≡◌, ℕ, MatchResult, slice_index_or};
-ghost use Rattle.tariff.specs.Sheets.{FigureWithin, RefusedFigure, no_figure};
+ghost use Rattle.std.specs.Prelude.{◌≡◌};
 ghost use Rattle.riders.specs.Percent.{percent_figures};
 
-use tariff::{Figure, Unsealed};
+use tariff::{Draft, Figure, Refusal, Sealed};
 
 // The rider's number and its factor in hundredths of a percent, any numbers.
 #[derive(Clone, Copy)]
@@ -12,12 +11,7 @@ pub struct PercentDraft {
     pub factor: i64,
 }
 
-// A sealed sheet: its figures lie within their limits and stay as they are.
-#[derive(Clone, Copy)]
-pub struct PercentSheet {
-    pub(super) figures: PercentDraft,
-    ghost within: { (k : ℕ) → FigureWithin (slice_index_or (percent_figures figures) k no_figure) },
-}
+pub type PercentSheet = Sealed<PercentDraft>;
 
 impl PercentDraft {
     fn figures(&self) -> [Figure; 2]
@@ -28,17 +22,12 @@ impl PercentDraft {
             Figure::between(-10_000, 10_000, self.factor),
         ]
     }
+}
 
-    // Refused where a figure is outside its limits; the draft comes back as it was.
-    pub fn seal(self) -> Result<PercentSheet, Unsealed<PercentDraft>>
-        ensures { MatchResult result (λ sheet. sheet.figures ≡ self) (λ unsealed. (unsealed.draft ≡ self) × RefusedFigure (percent_figures self) unsealed.refusal) }
-    {
-        match Figure::check(&self.figures()) {
-            Ok(()) => Ok(PercentSheet { figures: self }),
-            Err(refusal) => Err(Unsealed {
-                refusal,
-                draft: self,
-            }),
-        }
+impl Draft for PercentDraft {
+    ghost listed = { percent_figures };
+
+    fn check(&self) -> Result<(), Refusal> {
+        Figure::check(&self.figures())
     }
 }
