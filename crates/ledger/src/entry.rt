@@ -1,4 +1,9 @@
 // An entry of the ledger.
+ghost use Rattle.std.specs.Prelude.{◌≡◌, Some};
+ghost use Rattle.ledger.specs.Entries.{is_for, is_written};
+ghost use Rattle.ledger.specs.Texts.{entry_text, letter_text};
+
+use std::fmt;
 
 // Whether an entry came from a bill or from a true-up.
 #[derive(Clone, Copy, PartialEq, Eq, Debug)]
@@ -13,4 +18,49 @@ pub struct Entry {
     pub letter: Letter,
     pub line: u8,
     pub cents: i64,
+}
+
+impl Letter {
+    // A bill has an entry for each line, a true-up only where there is something to true up.
+    pub(crate) fn writes(self, cents: i64) -> bool
+        ensures { result ≡ is_written self cents }
+    {
+        match self {
+            Letter::Bill => true,
+            Letter::TrueUp => cents != 0,
+        }
+    }
+}
+
+impl Entry {
+    pub(crate) fn is_for(&self, month: u8, line: u8) -> bool
+        ensures { result ≡ is_for month line self.now }
+    {
+        self.month == month && self.line == line
+    }
+}
+
+impl fmt::Display for Letter {
+    ghost output = { λ letter. Some (letter_text letter) };
+
+    fn fmt<W: fmt::Write>(&self, f: &mut fmt::Formatter<W>) -> fmt::Result {
+        f.write_str(match self {
+            Letter::Bill => "B",
+            Letter::TrueUp => "T",
+        })
+    }
+}
+
+impl fmt::Display for Entry {
+    ghost output = { λ entry. Some (entry_text entry) };
+
+    fn fmt<W: fmt::Write>(&self, f: &mut fmt::Formatter<W>) -> fmt::Result {
+        let Entry {
+            month,
+            letter,
+            line,
+            cents,
+        } = self;
+        write!(f, "{month} {letter} {line} {cents}")
+    }
 }
