@@ -1,5 +1,5 @@
 // An entry of the ledger.
-ghost use Rattle.std.specs.Prelude.{◌≡◌, Some};
+ghost use Rattle.std.specs.Prelude.{◌≡◌, Some, count_by};
 ghost use Rattle.ledger.specs.Entries.{is_for, is_written};
 ghost use Rattle.ledger.specs.Texts.{entry_text, letter_text};
 
@@ -29,6 +29,13 @@ impl Letter {
             Letter::Bill => true,
             Letter::TrueUp => cents != 0,
         }
+    }
+
+    // How many of the lines have an entry.
+    pub(crate) fn count(self, lines: &[i64]) -> usize
+        ensures { result ≡ count_by (is_written self) lines.now }
+    {
+        lines.iter().filter(|cents| self.writes(**cents)).count()
     }
 }
 

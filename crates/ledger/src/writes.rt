@@ -1,18 +1,11 @@
 // What a bill and a true-up write into a ledger.
-ghost use Rattle.std.specs.Prelude.{◌≡◌, ◌<◌, [], ◌∷◌, ◌++◌, length, count_by, OnErr, OnOk};
-ghost use Rattle.ledger.specs.Entries.{SumsWithin, is_written, owed};
+ghost use Rattle.std.specs.Prelude.{◌≡◌, ◌<◌, [], ◌∷◌, ◌++◌, length, OnErr, OnOk};
+ghost use Rattle.ledger.specs.Entries.{SumsWithin, owed};
 ghost use Rattle.ledger.specs.Ledgers.{entries_of, free_of, room_of, write_answer};
 
 use crate::entry::{Entry, Letter};
 use crate::ledger::{Ledger, NoRoom};
 use tariff::Amounts;
-
-// How many of the lines have an entry of the letter.
-fn count_written(letter: Letter, lines: &[i64]) -> usize
-    ensures { result ≡ count_by (is_written letter) lines.now }
-{
-    lines.iter().filter(|cents| letter.writes(**cents)).count()
-}
 
 impl Ledger<'_> {
     // One entry more, with which each line's sum stays within the limit.
@@ -35,7 +28,7 @@ impl Ledger<'_> {
         ensures room { room_of self.new ≡ room_of self.old }
     {
         let lines = self.differences(month, amounts);
-        let count = count_written(letter, &lines);
+        let count = letter.count(&lines);
         let free = self.free();
         if free < count {
             return Err(NoRoom { free });

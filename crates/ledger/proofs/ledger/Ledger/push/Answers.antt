@@ -1,30 +1,25 @@
-use Rattle.std.proofs.Common.{◌≡◌, ◌+◌, ◌<◌, [], ◌∷◌, ◌++◌, length, take, set, arith}
+use Rattle.std.proofs.Common.{◌<◌, length, arith}
 use Rattle.std.proofs.lemmas.List.{length-set, take_more_set}
 use Rattle.ledger.specs.Ledgers.{entries_of, room_of}
-use Rattle.ledger.specs.declared.entry.Entry.{Entry}
 use Rattle.ledger.specs.declared.ledger.Ledger.{Ledger}
 use Rattle.ledger.proofs.Fronts.{entries_length}
 use Rattle.ledger.proofs.ledger.Ledger.push.Goals as goal
 
-module _ (ledger : Ledger) (entry : Entry) (space : length (entries_of ledger) < room_of ledger) where
-  here : ledger.written < length ledger.entries.now
-  unfolding room_of
-  here = omega (arith, entries_length ledger)
-
-  pushed : take (ledger.written + 1) (set ledger.entries.now ledger.written entry) ≡ entries_of ledger ++ entry ∷ []
-  unfolding entries_of
-  pushed = take_more_set ledger.entries.now ledger.written entry here
+free_place : (ledger : Ledger) → length (entries_of ledger) < room_of ledger → ledger.written < length ledger.entries.now
+unfolding room_of
+free_place ledger space = omega (arith, entries_length ledger)
 
 pub bounds-self-self : goal.bounds-self-self
-bounds-self-self c = here c.args.self.now c.args.entry c.requires.space
+bounds-self-self c = free_place c.args.self.now c.requires.space
 
 pub invariant_of-self : goal.invariant_of-self
+unfolding entries_of
 invariant_of-self c =
     let ledger = c.args.self.now in
-    let in_room = here ledger c.args.entry c.requires.space in
+    let here = free_place ledger c.requires.space in
     record {
       there = simp length-set (omega arith);
-      within = rw (pushed ledger c.args.entry c.requires.space) c.requires.within;
+      within = rw (take_more_set ledger.entries.now ledger.written c.args.entry here) c.requires.within;
     }
 
 pub returns : goal.returns
@@ -32,6 +27,6 @@ unfolding entries_of room_of
 returns c =
     let ledger = c.args.self.now in
     record {
-      pushed = pushed ledger c.args.entry c.requires.space;
+      pushed = take_more_set ledger.entries.now ledger.written c.args.entry (free_place ledger c.requires.space);
       room = length-set ledger.entries.now ledger.written c.args.entry;
     }

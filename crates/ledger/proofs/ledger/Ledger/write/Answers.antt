@@ -1,12 +1,12 @@
 use Rattle.std.proofs.Common.{◌≡◌, ℕ, ◌+◌, ◌<◌, ◌≤◌, true, false, List, [], ◌∷◌, ◌++◌, length, get_or, drop, ℤ, pos, count_by, sym, refl, ap, ◌∙◌, arith, w64, to_z, of_z, rules}
 use Rattle.std.proofs.lemmas.List.{append_assoc, append-nil, drop_all, drop_more, length-append}
 use Rattle.std.proofs.lemmas.Bool.Decides.{nat_tests}
-use Rattle.ledger.specs.Entries.{differences, entries_from, is_written, owed, sums}
-use Rattle.ledger.specs.Ledgers.{entries_of, room_of}
+use Rattle.ledger.specs.Entries.{entries_from, is_written}
+use Rattle.ledger.specs.Ledgers.{entries_of}
 use Rattle.ledger.specs.declared.entry.Entry.{Entry}
 use Rattle.ledger.specs.declared.entry.Letter.{Letter}
 use Rattle.ledger.proofs.Fronts.{entries_fit, entries_within, part_within, written_within}
-use Rattle.ledger.proofs.Sums.{entries_cons_unwritten, entries_cons_written, entries_count, entries_none, entry_of}
+use Rattle.ledger.proofs.Sums.{entries_cons_unwritten, entries_cons_written, owed_count, entries_none, entry_of}
 use Rattle.ledger.proofs.ledger.Ledger.write.Goals as goal
 use Rattle.ledger.proofs.ledger.Ledger.write.Goals.{then-writes, else-writes}
 
@@ -28,42 +28,28 @@ module _ (letter : Letter) (month : ℕ) (lines : List ℤ) (done whole : List E
       let none = ap (entries_from letter month (i + 1)) (drop_all i lines past) ∙ entries_none letter month (i + 1) in
       sym (append-nil done) ∙ ap (λ es. done ++ es) (sym none) ∙ so_far
 
--- there is room for an entry while one is to come
-room_for_one : (done : List Entry) (entry : Entry) (rest entries owed : List Entry) → (done ++ entry ∷ []) ++ rest ≡ entries ++ owed → (before after : ℕ) → length owed + length entries ≤ before → after ≡ before → length done < after
-room_for_one done entry rest entries owed is before after enough same =
-    omega (arith, simp length-append at (ap length is))
-
--- the count is that of the contract
-owed_count : (letter : Letter) (month : ℕ) (amounts : List ℤ) (entries : List Entry) (lines : List ℤ) (count : ℕ) → lines ≡ differences amounts (sums entries month) → count ≡ count_by (is_written letter) lines → count ≡ length (owed letter month amounts entries)
-owed_count letter month amounts entries lines count is counted =
-    counted ∙ ap (count_by (is_written letter)) is ∙ sym (entries_count letter month 1 (differences amounts (sums entries month)))
-
 pub returns-then-free-count-clause-answer : goal.returns-then-free-count-clause-answer
 returns-then-free-count-clause-answer c =
-    let count = owed_count c.args.letter c.args.month c.args.amounts.now.cents (entries_of c.args.self.now) c.differences-lines.result c.count_written-count.result c.differences-lines.ensures c.count_written-count.ensures in
+    let count = owed_count c.args.letter c.args.month c.args.amounts.now.cents (entries_of c.args.self.now) in
     grind (arith, nat_tests)
 
 -- what is written is within the limit, and so is each front of it
 pub push-requires : goal.push-requires
 push-requires c =
     let ledger = c.args.self.now in
+    let letter = c.args.letter in
     let amounts = c.args.amounts.now in
     let lines = c.differences-lines.result in
     let i = c.loop-i.i in
     let done = entries_of c.loop-i.self in
-    let whole = entries_of ledger ++ owed c.args.letter c.args.month amounts.cents (entries_of ledger) in
     let cents = to_z w64 (of_z w64 (get_or lines i (pos 0))) in
     let same : cents ≡ get_or lines i (pos 0) = search rules in
-    let rest = entries_from c.args.letter c.args.month (i + 1 + 1) (drop (i + 1) lines) in
-    let more : (done ++ entry_of c.args.letter c.args.month (i + 1) cents ∷ []) ++ rest ≡ whole = written_more c.args.letter c.args.month lines done whole i c.loop-i.invariant.whole cents (search rules) same (search rules) in
-    let count = owed_count c.args.letter c.args.month amounts.cents (entries_of ledger) lines c.count_written-count.result c.differences-lines.ensures c.count_written-count.ensures in
+    let more = written_more letter c.args.month lines done _ i c.loop-i.invariant.whole cents (search rules) same (search rules) in
+    let count = ap (count_by (is_written letter)) c.differences-lines.ensures in
     record {
-      space = room_for_one done (entry_of c.args.letter c.args.month (i + 1) cents) rest (entries_of ledger) (owed c.args.letter c.args.month amounts.cents (entries_of ledger)) more (room_of ledger) (room_of c.loop-i.self) (omega (arith, entries_fit ledger)) c.loop-i.invariant.room;
-      within = part_within (done ++ entry_of c.args.letter c.args.month (i + 1) cents ∷ []) rest (rw more (written_within c.args.letter (entries_of ledger) c.args.month amounts.cents amounts.counted (entries_within ledger (entries_of ledger) refl) amounts.within));
+      space = omega (arith, count, owed_count letter c.args.month amounts.cents (entries_of ledger), entries_fit ledger, simp length-append at (ap length more));
+      within = part_within _ _ _ more (written_within letter (entries_of ledger) c.args.month amounts.cents amounts.counted (entries_within ledger (entries_of ledger) refl) amounts.within);
     }
-
-pub loop-i-init : goal.loop-i-init
-loop-i-init c = search rules
 
 pub loop-i-preserved : goal.loop-i-preserved
 loop-i-preserved c =
@@ -83,7 +69,7 @@ loop-i-preserved c =
 
 pub returns-clause-answer : goal.returns-clause-answer
 returns-clause-answer c =
-    let count = owed_count c.args.letter c.args.month c.args.amounts.now.cents (entries_of c.args.self.now) c.differences-lines.result c.count_written-count.result c.differences-lines.ensures c.count_written-count.ensures in
+    let count = owed_count c.args.letter c.args.month c.args.amounts.now.cents (entries_of c.args.self.now) in
     grind (arith, nat_tests)
 
 pub returns-clause-written : goal.returns-clause-written
