@@ -12,6 +12,7 @@ pub enum Letter {
     TrueUp,
 }
 
+// Month and line by their published numbers, each from 1.
 #[derive(Clone, Copy, PartialEq, Eq, Debug)]
 pub struct Entry {
     pub month: u8,

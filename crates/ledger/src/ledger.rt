@@ -8,7 +8,7 @@ use crate::entry::Entry;
 #[derive(Drop)]
 pub struct Ledger<'a> {
     pub(crate) entries: &'a mut [Entry],
-    // memory that is lent, so no Vec
+    // a length beside the memory, since that is lent: no heap
     pub(crate) written: usize,
     ghost there: { written ≤ length entries.now },
     ghost within: { SumsWithin (take written entries.now) },
