@@ -1,3 +1,4 @@
+pub mod FromFn
 pub mod Fronts
 pub mod Sums
 pub mod Turns

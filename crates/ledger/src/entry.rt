@@ -1,4 +1,9 @@
 // An entry of the ledger.
+ghost use Rattle.std.specs.Prelude.{◌≡◌, Some, count_by};
+ghost use Rattle.ledger.specs.Entries.{is_for, is_written};
+ghost use Rattle.ledger.specs.Texts.{entry_text, letter_text};
+
+use std::fmt;
 
 // Whether an entry came from a bill or from a true-up.
 #[derive(Clone, Copy, PartialEq, Eq, Debug)]
@@ -7,10 +12,63 @@ pub enum Letter {
     TrueUp,
 }
 
+// Month and line by their published numbers, each from 1.
 #[derive(Clone, Copy, PartialEq, Eq, Debug)]
 pub struct Entry {
     pub month: u8,
     pub letter: Letter,
     pub line: u8,
     pub cents: i64,
+}
+
+impl Letter {
+    // A bill has an entry for each line, a true-up only where there is something to true up.
+    pub(crate) fn writes(self, cents: i64) -> bool
+        ensures { result ≡ is_written self cents }
+    {
+        match self {
+            Letter::Bill => true,
+            Letter::TrueUp => cents != 0,
+        }
+    }
+
+    // How many of the lines have an entry.
+    pub(crate) fn count(self, lines: &[i64]) -> usize
+        ensures { result ≡ count_by (is_written self) lines.now }
+    {
+        lines.iter().filter(|cents| self.writes(**cents)).count()
+    }
+}
+
+impl Entry {
+    pub(crate) fn is_for(&self, month: u8, line: u8) -> bool
+        ensures { result ≡ is_for month line self.now }
+    {
+        self.month == month && self.line == line
+    }
+}
+
+impl fmt::Display for Letter {
+    ghost output = { λ letter. Some (letter_text letter) };
+
+    fn fmt<W: fmt::Write>(&self, f: &mut fmt::Formatter<W>) -> fmt::Result {
+        f.write_str(match self {
+            Letter::Bill => "B",
+            Letter::TrueUp => "T",
+        })
+    }
+}
+
+impl fmt::Display for Entry {
+    ghost output = { λ entry. Some (entry_text entry) };
+
+    fn fmt<W: fmt::Write>(&self, f: &mut fmt::Formatter<W>) -> fmt::Result {
+        let Entry {
+            month,
+            letter,
+            line,
+            cents,
+        } = self;
+        write!(f, "{month} {letter} {line} {cents}")
+    }
 }

@@ -8,4 +8,4 @@ mod totals;
 mod writes;
 
 pub use entry::{Entry, Letter};
-pub use ledger::Ledger;
+pub use ledger::{Ledger, NoRoom};

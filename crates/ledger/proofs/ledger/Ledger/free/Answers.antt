@@ -5,4 +5,4 @@ use Rattle.ledger.proofs.ledger.Ledger.free.Goals as goal
 
 pub returns : goal.returns
 unfolding room_of
-returns c = let count = entries_length c.args.self.now c.requires in omega arith
+returns c = omega (arith, entries_length c.args.self.now)

@@ -1,25 +1,32 @@
-use Rattle.std.proofs.Common.{◌≡◌, ◌+◌, ◌<◌, [], ◌∷◌, ◌++◌, length, take, set, arith}
+use Rattle.std.proofs.Common.{◌<◌, length, arith}
 use Rattle.std.proofs.lemmas.List.{length-set, take_more_set}
 use Rattle.ledger.specs.Ledgers.{entries_of, room_of}
-use Rattle.ledger.proofs.Fronts.{entries_length, push_within}
+use Rattle.ledger.specs.declared.ledger.Ledger.{Ledger}
+use Rattle.ledger.proofs.Fronts.{entries_length}
 use Rattle.ledger.proofs.ledger.Ledger.push.Goals as goal
 
-pub bounds-self-self : goal.bounds-self-self
+free_place : (ledger : Ledger) → length (entries_of ledger) < room_of ledger → ledger.written < length ledger.entries.now
 unfolding room_of
-bounds-self-self c = let count = entries_length c.args.self.now c.requires.sound in omega (arith, c.requires.space)
+free_place ledger space = omega (arith, entries_length ledger)
+
+pub bounds-self-self : goal.bounds-self-self
+bounds-self-self c = free_place c.args.self.now c.requires.space
+
+pub invariant_of-self : goal.invariant_of-self
+unfolding entries_of
+invariant_of-self c =
+    let ledger = c.args.self.now in
+    let here = free_place ledger c.requires.space in
+    record {
+      there = simp length-set (omega arith);
+      within = rw (take_more_set ledger.entries.now ledger.written c.args.entry here) c.requires.within;
+    }
 
 pub returns : goal.returns
 unfolding entries_of room_of
 returns c =
     let ledger = c.args.self.now in
-    let count = entries_length ledger c.requires.sound in
-    let here : ledger.written < length ledger.entries.now = omega (arith, c.requires.space) in
-    let pushed : take (ledger.written + 1) (set ledger.entries.now ledger.written c.args.entry) ≡ entries_of ledger ++ c.args.entry ∷ [] = take_more_set ledger.entries.now ledger.written c.args.entry here in
     record {
-      pushed = pushed;
+      pushed = take_more_set ledger.entries.now ledger.written c.args.entry (free_place ledger c.requires.space);
       room = length-set ledger.entries.now ledger.written c.args.entry;
-      sound = (
-        simp length-set (omega arith),
-        rw pushed (push_within (entries_of ledger) c.args.entry c.requires.sound.1 c.requires.limit),
-      );
     }
