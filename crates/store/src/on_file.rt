@@ -49,14 +49,14 @@ impl Quarter {
         ensures counted { result ≡ kw_of (reading_of self.now) }
         ensures within { result ≤ most_demand }
     {
-        if self.kw <= self.kva { self.kw } else { 0 }
+        self.reading().map_or(0, |reading| reading.kw)
     }
 
     pub(crate) fn kva(&self) -> u32
         ensures counted { result ≡ kva_of (reading_of self.now) }
         ensures within { result ≤ most_demand }
     {
-        if self.kw <= self.kva { self.kva } else { 0 }
+        self.reading().map_or(0, |reading| reading.kva)
     }
 }
 
