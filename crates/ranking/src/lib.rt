@@ -25,16 +25,17 @@ pub trait Order<R> {
 pub fn highest<R, K: Order<R>>(run: &[R]) -> Option<usize>
     ensures { MatchOption result (length run.now ≡ 0) (λ best. IsFirstBest K.outranks run.now (length run.now) best) }
 {
-    if run.is_empty() {
-        return None;
-    }
-    let mut best = 0;
-    for i in 1..run.len() {
-        if K::above(&run[i], &run[best]) {
-            best = i;
+    let mut best = None;
+    for (i, record) in run.iter().enumerate() {
+        let higher = match best {
+            Some(highest) => K::above(record, &run[highest]),
+            None => true,
+        };
+        if higher {
+            best = Some(i);
         }
     }
-    Some(best)
+    best
 }
 
 // One order, and among its equals another.

@@ -1,9 +1,10 @@
 -- The highest of a list.
-use Rattle.std.proofs.Common.{◌≡◌, ℕ, zero, suc, ◌<◌, ◌≤◌, max, ltb, List, [], ◌∷◌, map, length, get_or, set, replicate, refl, le_trans, arith}
+use Rattle.std.proofs.Common.{◌≡◌, ℕ, zero, suc, ◌<◌, ◌≤◌, max, leb, ltb, List, [], ◌∷◌, map, length, get_or, set, replicate, refl, sym, le_trans, arith}
 use native.Mathlib.Nat.{le-max_left, le-max_right, max-le}
-use Rattle.std.specs.List.{IsFirstBest}
+use Rattle.std.specs.List.{IsFirstBest, list_all}
 use Rattle.std.proofs.lemmas.List.{length-map, get_or-map}
-use Rattle.std.proofs.lemmas.Bool.{ltb-false}
+use Rattle.std.proofs.lemmas.Bool.{le-leb, ltb-false}
+use Rattle.std.proofs.lemmas.Bool.Decides.{nat_tests}
 use Rattle.store.specs.Months.{top}
 
 pub top_empty : (xs : List ℕ) → length xs ≡ 0 → top xs ≡ 0
@@ -64,3 +65,8 @@ highest_is_top key xs best d found =
     (λ j h. let in' : j < length xs = omega (arith, length-map xs key) in
     omega (arith, at j in', ltb-false (key (get_or xs best d)) (key (get_or xs j d)) (found.1 j d in'))) in
     omega arith
+
+pub all_top : (xs : List ℕ) (most : ℕ) → list_all (λ x. leb x most) xs ≡ leb (top xs) most
+unfolding top
+all_top [] most = sym (le-leb 0 most (omega arith))
+all_top (x ∷ xs) most = grind (arith, nat_tests, all_top xs most)

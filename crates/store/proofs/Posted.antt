@@ -5,8 +5,8 @@ use mathlib.Core.List.{map-map}
 use Rattle.std.proofs.lemmas.List.{get_or-map, get_or_past, get_or-set_other, get_or-set_same, length-map, length-replicate, map-set, set_past, take-set-le}
 use Rattle.std.proofs.lemmas.Bool.{cases_eq, cases_lt, cond-true}
 use Rattle.store.specs.Months.{HourOnFile, Month, altered, fresh, hours_of, kw_of, no_month, price_within, quarters_of, ratchet, top, with_price, with_readings, with_scheduled, with_state}
-use Rattle.store.specs.Records.{first_record, hour_of, peak_in, reading_of, stretch}
-use Rattle.store.specs.Stores.{PeaksKept, Sound, before_of, month_of, months_of}
+use Rattle.store.specs.Records.{first_record, hour_of, peak_in, reading_of, record_in, stretch}
+use Rattle.store.specs.Stores.{before_of, month_of, months_of}
 use Rattle.store.specs.declared.month.MonthRecord.{MonthRecord}
 use Rattle.store.specs.declared.quarter.Hour.{Hour}
 use Rattle.store.specs.declared.quarter.Quarter.{Quarter}
@@ -18,7 +18,7 @@ use Rattle.store.proofs.Peaks.{top_replicate, top_set_over, top_set_under}
 use Rattle.store.proofs.Stretches.{altered_alike, get_or_months, get_or_stretch, length_months, length_stretch, map-replicate, months_altered, months_pushed, sets_past, stretch_cleared, stretch_map, stretch_set, stretch_set_other, stretch_sets, stretch_sets_other}
 
 abbrev pub record_at : Store → ℕ → MonthRecord
-record_at s k = get_or s.records (ratchet + k) first_record
+record_at s k = record_in s.records k
 
 abbrev pub readings_in : Store → List (Option Reading)
 readings_in s = map reading_of s.memory.quarters.now
@@ -55,9 +55,9 @@ unfolding no_month fresh
 no_days = refl
 
 -- places past a month's last quarter and hour
-months_length : (s : Store) → Sound s → (k : ℕ) → (length (get_or (months_of s) k no_month).readings ≡ quarters_of (get_or (months_of s) k no_month).days) × (length (get_or (months_of s) k no_month).hours ≡ hours_of (get_or (months_of s) k no_month).days)
+months_length : (s : Store) (k : ℕ) → (length (get_or (months_of s) k no_month).readings ≡ quarters_of (get_or (months_of s) k no_month).days) × (length (get_or (months_of s) k no_month).hours ≡ hours_of (get_or (months_of s) k no_month).days)
 unfolding no_month fresh
-months_length s sound k =
+months_length s k =
     elim (cases_lt k s.started) [
       | inl there ↦
           let days = (record_at s k).days in
@@ -68,18 +68,18 @@ months_length s sound k =
       | inr past ↦ rw (get_or_past (months_of s) k no_month (omega (arith, length_months s))) (refl, refl)
     ]
 
-pub hour_past : (s : Store) → Sound s → (k at : ℕ) (alter : Month → Month) (v : HourOnFile) → let month = get_or (months_of s) k no_month in hours_of month.days ≤ at → alter month ≡ record { days = month.days; state = month.state; readings = month.readings; hours = set month.hours at v } → altered k alter (months_of s) ≡ months_of s
-hour_past s sound k at alter v past is =
-    let same = set_past (get_or (months_of s) k no_month).hours at v (omega (arith, (months_length s sound k).1)) in
+pub hour_past : (s : Store) (k at : ℕ) (alter : Month → Month) (v : HourOnFile) → let month = get_or (months_of s) k no_month in hours_of month.days ≤ at → alter month ≡ record { days = month.days; state = month.state; readings = month.readings; hours = set month.hours at v } → altered k alter (months_of s) ≡ months_of s
+hour_past s k at alter v past is =
+    let same = set_past (get_or (months_of s) k no_month).hours at v (omega (arith, (months_length s k).1)) in
     altered_alike (months_of s) k alter (is ∙ rw same refl)
 
-pub readings_past : (s : Store) → Sound s → (k at : ℕ) (readings : List Reading) → quarters_of (get_or (months_of s) k no_month).days ≤ at → altered k (with_readings at readings) (months_of s) ≡ months_of s
-readings_past s sound k at readings past =
-    let same = sets_past (get_or (months_of s) k no_month).readings at (map Some readings) (omega (arith, (months_length s sound k).0)) in
+pub readings_past : (s : Store) (k at : ℕ) (readings : List Reading) → quarters_of (get_or (months_of s) k no_month).days ≤ at → altered k (with_readings at readings) (months_of s) ≡ months_of s
+readings_past s k at readings past =
+    let same = sets_past (get_or (months_of s) k no_month).readings at (map Some readings) (omega (arith, (months_length s k).0)) in
     altered_alike (months_of s) k (with_readings at readings) (rw same refl)
 
 -- one hour written
-module _ (s t : Store) (sound : Sound s) (k at : ℕ) (there : k < s.started) (below : at < hours_of (record_at s k).days) where
+module _ (s t : Store) (k at : ℕ) (there : k < s.started) (below : at < hours_of (record_at s k).days) where
   pub old_hour : (d : Hour) → get_or (month_of s k).hours at (record { price = None; scheduled = 0 }) ≡ hour_of (get_or s.memory.hours.now (744 * k + at) d)
   old_hour d =
       let months = month_parts s k _ _ _ _ refl refl refl refl in
@@ -116,7 +116,7 @@ module _ (s t : Store) (sound : Sound s) (k at : ℕ) (there : k < s.started) (b
       months_with_hour (with_scheduled at kw) hour started records quarters hours cc
 
 -- the record of one month written
-module _ (s t : Store) (sound : Sound s) (k : ℕ) (r : MonthRecord) (few : k < 48) (written : t.records ≡ set s.records (ratchet + k) r) where
+module _ (s t : Store) (k : ℕ) (r : MonthRecord) (few : k < 48) (written : t.records ≡ set s.records (ratchet + k) r) where
   pub record_own : record_at t k ≡ r
   record_own = rw written (get_or-set_same s.records (ratchet + k) r first_record (omega arith))
 
@@ -128,19 +128,6 @@ module _ (s t : Store) (sound : Sound s) (k : ℕ) (r : MonthRecord) (few : k < 
   before_kept = rw written (ap (map (λ month. month.peak)) (take-set-le ratchet s.records (ratchet + k) r (omega arith)))
 
   -- the state alone
-  pub peaks_with_state : t.started ≡ s.started → t.memory ≡ s.memory → r.days ≡ (record_at s k).days → r.peak ≡ (record_at s k).peak → PeaksKept t
-  peaks_with_state started memory days peak j below =
-      let kept = sound.1 j (omega arith) in
-      let quarters = ap (λ m. m.quarters.now) memory in
-      elim (cases_eq j k) [
-        | inl same ↦
-            let own = record_own in
-            let at : record_at t j ≡ record_at t k = ap (record_at t) same in
-            let was : record_at s j ≡ record_at s k = ap (record_at s) same in
-            cc
-        | inr other ↦ let spared = record_other j other in cc
-      ]
-
   pub months_with_state : (state : State) → k < s.started → t.started ≡ s.started → t.memory ≡ s.memory → r.days ≡ (record_at s k).days → r.state ≡ state → months_of t ≡ altered k (with_state state) (months_of s)
   months_with_state state there started memory days now_state =
       let own = record_own in
@@ -161,7 +148,7 @@ unfolding peak_in
 peak_readings quarters k days =
     ap top (sym (map-map kw_of reading_of (stretch 2976 k (quarters_of days) quarters)) ∙ ap (map kw_of) (stretch_map reading_of 2976 k (quarters_of days) quarters))
 
-module _ (s : Store) (sound : Sound s) (k at : ℕ) (posted : List (Option Reading)) (fits : at + length posted ≤ 2976) (quarters : List Quarter) (written : map reading_of quarters ≡ sets (readings_in s) (2976 * k + at) posted) where
+module _ (s : Store) (k at : ℕ) (posted : List (Option Reading)) (fits : at + length posted ≤ 2976) (quarters : List Quarter) (written : map reading_of quarters ≡ sets (readings_in s) (2976 * k + at) posted) where
   other_readings : (j : ℕ) → j < s.started → j ≢ k → stretch 2976 j (quarters_of (record_at s j).days) (map reading_of quarters) ≡ readings_at s j (record_at s j).days
   other_readings j there other =
       rw written (stretch_sets_other 2976 j k (quarters_of (record_at s j).days) (readings_in s) at posted other (omega (arith, (record_at s j).length.1)) fits (rw length-map (omega (arith, (record_at s j).length.1))))
@@ -176,7 +163,7 @@ module _ (s : Store) (sound : Sound s) (k at : ℕ) (posted : List (Option Readi
         | inr other ↦
             let old = get_or-set_other s.records (ratchet + k) (ratchet + j) month first_record (λ e. other (omega arith)) in
             let there = older j below other in
-            let kept = sound.1 j there in
+            let kept = s.peaks j there in
             let was = peak_readings s.memory.quarters.now j (record_at s j).days in
             let is = peak_readings quarters j (record_at s j).days in
             let stretched = other_readings j there other in
@@ -186,7 +173,7 @@ module _ (s : Store) (sound : Sound s) (k at : ℕ) (posted : List (Option Readi
   pub months_with_readings : (t : Store) (month : MonthRecord) (readings : List Reading) → k < s.started → map Some readings ≡ posted → at + length posted ≤ quarters_of (record_at s k).days → month.days ≡ (record_at s k).days → month.state ≡ (record_at s k).state → t.started ≡ s.started → t.records ≡ set s.records (ratchet + k) month → t.memory.quarters.now ≡ quarters → t.memory.hours.now ≡ s.memory.hours.now → months_of t ≡ altered k (with_readings at readings) (months_of s)
   months_with_readings t month readings there are below days state started records memory hours =
       let months = month_parts s k _ _ _ _ refl refl refl refl in
-      let own = record_own s t sound k month (omega arith) records in
+      let own = record_own s t k month (omega arith) records in
       let kept : hours_in t ≡ hours_in s = ap (map hour_of) hours in
       let lent : readings_in t ≡ map reading_of quarters = ap (map reading_of) memory in
       let fresh_own = stretch_sets 2976 k (quarters_of (record_at s k).days) (readings_in s) at posted below (rw length-map (omega (arith, (record_at s k).length.1))) in
@@ -196,8 +183,8 @@ module _ (s : Store) (sound : Sound s) (k at : ℕ) (posted : List (Option Readi
       (rw (lent, written) fresh_own) (rw kept refl)
       ∙ (let put = are in cc))
       (λ j started' other. spared_month s t j record {
-        days = ap (λ m. m.days) (record_other s t sound k month (omega arith) records j other);
-        state = ap (λ m. m.state) (record_other s t sound k month (omega arith) records j other);
+        days = ap (λ m. m.days) (record_other s t k month (omega arith) records j other);
+        state = ap (λ m. m.state) (record_other s t k month (omega arith) records j other);
         readings = rw lent (other_readings j started' other);
         hours = rw kept refl;
       })
@@ -231,11 +218,11 @@ peak_cleared quarters old k days there written =
     sym (peak_readings quarters k days
     ∙ rw (written, stretch_cleared 2976 k (quarters_of days) (map reading_of old) None (rw length-map there), map-replicate kw_of (quarters_of days) None) (top_replicate (quarters_of days)))
 
-pub months_started : (s t : Store) → Sound s → (days : ℕ) (month : MonthRecord) → s.started < 48 → days ≤ 31 → 2976 * s.started + quarters_of days ≤ length s.memory.quarters.now → 744 * s.started + hours_of days ≤ length s.memory.hours.now → t.started ≡ s.started + 1 → t.records ≡ set s.records (ratchet + s.started) month → month.days ≡ days → month.state ≡ Open → readings_in t ≡ sets (readings_in s) (2976 * s.started + 0) (replicate (quarters_of days) None) → hours_in t ≡ sets (hours_in s) (744 * s.started + 0) (replicate (hours_of days) (record { price = None; scheduled = 0 })) → months_of t ≡ months_of s ++ (fresh days ∷ [])
+pub months_started : (s t : Store) (days : ℕ) (month : MonthRecord) → s.started < 48 → days ≤ 31 → 2976 * s.started + quarters_of days ≤ length s.memory.quarters.now → 744 * s.started + hours_of days ≤ length s.memory.hours.now → t.started ≡ s.started + 1 → t.records ≡ set s.records (ratchet + s.started) month → month.days ≡ days → month.state ≡ Open → readings_in t ≡ sets (readings_in s) (2976 * s.started + 0) (replicate (quarters_of days) None) → hours_in t ≡ sets (hours_in s) (744 * s.started + 0) (replicate (hours_of days) (record { price = None; scheduled = 0 })) → months_of t ≡ months_of s ++ (fresh days ∷ [])
 unfolding fresh
-months_started s t sound days month few short quarters hours started records of_days opened written cleared =
+months_started s t days month few short quarters hours started records of_days opened written cleared =
     let k = s.started in
-    let own = record_own s t sound k month few records in
+    let own = record_own s t k month few records in
     let none : HourOnFile = record { price = None; scheduled = 0 } in
     let many = length-replicate {A = Option Reading} (quarters_of days) None in
     let many' = length-replicate (hours_of days) none in
@@ -246,10 +233,10 @@ months_started s t sound days month few short quarters hours started records of_
     (rw cleared (stretch_cleared 744 k (hours_of days) (hours_in s) none (rw length-map hours))))
     (λ j there.
     let other : j ≢ k = omega arith in
-    let same = record_other s t sound k month few records j other in
+    let same = record_other s t k month few records j other in
     spared_month s t j record {
       days = ap (λ m. m.days) same;
       state = ap (λ m. m.state) same;
-      readings = other_readings s sound k 0 (replicate (quarters_of days) None) (omega (arith, many)) t.memory.quarters.now written j there other;
+      readings = other_readings s k 0 (replicate (quarters_of days) None) (omega (arith, many)) t.memory.quarters.now written j there other;
       hours = rw cleared (stretch_sets_other 744 j k (hours_of (record_at s j).days) (hours_in s) 0 (replicate (hours_of days) none) other (omega (arith, (record_at s j).length.1)) (omega (arith, many')) (rw length-map (omega (arith, (record_at s j).length.1))));
     })

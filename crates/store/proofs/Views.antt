@@ -1,13 +1,17 @@
 -- The months of a store, one by one.
-use Rattle.std.proofs.Common.{◌≡◌, ℕ, ◌+◌, ◌-◌, ◌<◌, ◌≤◌, min, Bool, List, ◌++◌, map, length, get_or, take, drop, sym, refl, ap, ◌∙◌, arith}
+use Rattle.std.proofs.Common.{◌≡◌, ℕ, ◌+◌, ◌-◌, ◌<◌, ◌≤◌, min, ltb, Bool, List, ◌++◌, map, length, get_or, take, drop, Some, None, Option, sym, refl, ap, ◌∙◌, arith}
 use native.Mathlib.Nat.{add-sub_cancel_left}
 use mathlib.Core.List.{map-append, map-map}
+use Rattle.std.specs.Prelude.{IfSome, MatchOption, is_some}
+use Rattle.std.specs.Borrow.{Bor}
+use Rattle.std.specs.Option.{option_copied}
 use Rattle.std.specs.List.{range_with_len, prefix_len}
 use Rattle.std.proofs.lemmas.List.FromFn.{fill_by_all}
-use Rattle.std.proofs.lemmas.List.{drop-map, get_or_default, get_or-map, get_or_past, length-map, take-map}
-use Rattle.store.specs.Months.{Month, earlier_high, first_short, hours_of, kw_of, no_month, peak, quarters_of, ratchet, reached, top}
-use Rattle.store.specs.Records.{first_record, hour_of, peak_in, reading_of, stretch}
-use Rattle.store.specs.Stores.{Sound, before_of, month_of, months_of}
+use Rattle.std.proofs.lemmas.Bool.{ltb-false, ltb-true}
+use Rattle.std.proofs.lemmas.List.{drop-map, length-drop, length-take, get_or-drop, get_or-take, get_or_default, get_or-map, get_or_past, length-map, take-map}
+use Rattle.store.specs.Months.{Month, earlier_high, first_short, fresh, hours_of, kw_of, no_month, peak, quarters_of, ratchet, reached, top}
+use Rattle.store.specs.Records.{first_record, hour_of, peak_in, reading_of, record_in, stretch}
+use Rattle.store.specs.Stores.{before_of, month_of, months_of}
 use Rattle.store.specs.declared.month.MonthRecord.{MonthRecord}
 use Rattle.store.specs.declared.quarter.Hour.{Hour}
 use Rattle.store.specs.declared.quarter.Quarter.{Quarter}
@@ -16,53 +20,50 @@ use Rattle.store.specs.declared.store.Store.{Store}
 use Rattle.store.proofs.Stretches.{get_or_months, length_months, length_stretch}
 use Rattle.store.proofs.Windows.{leading_map, part_counted, take_counted, take_two, window}
 
-module _ (store : Store) (sound : Sound store) where
+module _ (store : Store) where
   pub month_past : (k : ℕ) → store.started ≤ k → get_or (months_of store) k no_month ≡ no_month
   month_past k past = get_or_past (months_of store) k no_month (rw (length_months store) past)
 
-  -- the record of a started month, at whatever default it is read
-  pub record_at : (k : ℕ) (d : MonthRecord) → k < store.started → get_or store.records (ratchet + k) d ≡ get_or store.records (ratchet + k) first_record
-  record_at k d here =
-      get_or_default store.records (ratchet + k) d first_record (omega arith)
+  -- the record of a started month
+  pub month_recorded : (k : ℕ) (d : MonthRecord) → k < store.started → get_or (take store.started (drop ratchet store.records)) k d ≡ record_in store.records k
+  month_recorded k d here =
+      get_or-take store.started (drop ratchet store.records) k d here ∙ get_or-drop ratchet store.records k d ∙ get_or_default store.records (ratchet + k) d first_record (omega arith)
 
   -- the stretches of a started month are its readings and its hours
-  module _ (k : ℕ) (d : MonthRecord) (here : k < store.started) where
-    pub quarters_read : (quarters : List Quarter) → quarters ≡ stretch 2976 k (quarters_of (get_or store.records (ratchet + k) d).days) store.memory.quarters.now → (map reading_of quarters ≡ (get_or (months_of store) k no_month).readings) × (length quarters ≡ quarters_of (get_or (months_of store) k no_month).days)
+  module _ (k : ℕ) (month : MonthRecord) (here : k < store.started) (is : month ≡ record_in store.records k) where
+    pub quarters_read : (quarters : List Quarter) → quarters ≡ stretch 2976 k (quarters_of month.days) store.memory.quarters.now → (map reading_of quarters ≡ (get_or (months_of store) k no_month).readings) × (length quarters ≡ quarters_of (get_or (months_of store) k no_month).days) × (length quarters ≤ 2976)
     unfolding month_of
-    quarters_read quarters is =
-        let month = get_or store.records (ratchet + k) first_record in
-        let longest = month.length.1 in
-        rw (get_or_months store k no_month here, is, record_at k d here) (refl, length_stretch 2976 k (quarters_of month.days) store.memory.quarters.now (omega arith))
+    quarters_read quarters are =
+        let longest = (record_in store.records k).length.1 in
+        let long = length_stretch 2976 k (quarters_of (record_in store.records k).days) store.memory.quarters.now (omega arith) in
+        rw (get_or_months store k no_month here, are, is) (refl, long, omega arith)
 
-    pub hours_read : (hours : List Hour) → hours ≡ stretch 744 k (hours_of (get_or store.records (ratchet + k) d).days) store.memory.hours.now → (map hour_of hours ≡ (get_or (months_of store) k no_month).hours) × (length hours ≡ hours_of (get_or (months_of store) k no_month).days)
+    pub hours_read : (hours : List Hour) → hours ≡ stretch 744 k (hours_of month.days) store.memory.hours.now → (map hour_of hours ≡ (get_or (months_of store) k no_month).hours) × (length hours ≡ hours_of (get_or (months_of store) k no_month).days) × (length hours ≤ 744)
     unfolding month_of
-    hours_read hours is =
-        let month = get_or store.records (ratchet + k) first_record in
-        let longest = month.length.1 in
-        rw (get_or_months store k no_month here, is, record_at k d here) (refl, length_stretch 744 k (hours_of month.days) store.memory.hours.now (omega arith))
-
-    pub days_limited : (get_or (months_of store) k no_month).days ≤ 31
-    unfolding month_of
-    days_limited = rw (get_or_months store k no_month here) (get_or store.records (ratchet + k) first_record).length.1
+    hours_read hours are =
+        let longest = (record_in store.records k).length.1 in
+        let long = length_stretch 744 k (hours_of (record_in store.records k).days) store.memory.hours.now (omega arith) in
+        rw (get_or_months store k no_month here, are, is) (refl, long, omega arith)
 
   -- the first month short of a state, by the records
-  pub first_short_counted : (state : State) (k n : ℕ) → n ≡ min store.started k → prefix_len (λ month. reached state month.state) (take (ratchet + n - ratchet) (drop ratchet store.records)) ≡ first_short state (months_of store) k
+  pub first_short_counted : (state : State) (k : ℕ) → prefix_len (λ month. reached state month.state) (take k (take store.started (drop ratchet store.records))) ≡ first_short state (months_of store) k
   unfolding months_of month_of
-  first_short_counted state k n is =
+  first_short_counted state k =
       let of_record : MonthRecord → Bool = λ month. reached state month.state in
       let of_month : Month → Bool = λ month. reached state month.state in
-      let records = part_counted store.records ratchet n first_record (omega arith) in
-      let months = take_counted (month_of store) store.started k n is in
-      rw (add-sub_cancel_left ratchet n, records, months) (leading_map of_record (λ j. get_or store.records (ratchet + j) first_record) (range_with_len 0 n) ∙ sym (leading_map of_month (month_of store) (range_with_len 0 n)))
+      let n = min store.started k in
+      let records = part_counted store.records ratchet store.started first_record (omega arith) in
+      rw (records, take_counted (record_in store.records) store.started k n refl, take_counted (month_of store) store.started k n refl)
+      (leading_map of_record (record_in store.records) (range_with_len 0 n) ∙ sym (leading_map of_month (month_of store) (range_with_len 0 n)))
 
   -- the peak kept for a month is the highest kW of its readings
-  pub peak_kept : (k : ℕ) → k < store.started → peak (month_of store k) ≡ (get_or store.records (ratchet + k) first_record).peak
+  pub peak_kept : (k : ℕ) → k < store.started → peak (month_of store k) ≡ (record_in store.records k).peak
   unfolding month_of peak peak_in
-  peak_kept k here = ap top (map-map kw_of reading_of _) ∙ sym (sound.1 k here)
+  peak_kept k here = ap top (map-map kw_of reading_of _) ∙ sym (store.peaks k here)
 
   peaks_kept : map peak (months_of store) ≡ map (λ month. month.peak) (take store.started (drop ratchet store.records))
   peaks_kept =
-      let kept : ℕ → ℕ = λ j. (get_or store.records (ratchet + j) first_record).peak in
+      let kept : ℕ → ℕ = λ j. (record_in store.records j).peak in
       fill_by_all kept (map peak (months_of store)) store.started 0 (length-map (months_of store) peak ∙ length_months store)
       (λ k here. get_or-map peak (months_of store) k no_month 0 (rw (length_months store) here) ∙ (ap peak (get_or_months store k no_month here) ∙ peak_kept k here))
       ∙ sym (ap (map (λ month. month.peak)) (part_counted store.records ratchet store.started first_record (omega arith)) ∙ map-map _ _ _)
@@ -79,3 +80,27 @@ module _ (store : Store) (sound : Sound store) where
   earlier_recorded k here =
       let fits : k + ratchet ≤ ratchet + store.started = omega arith in
       rw (peaks_recorded, drop-map, take-map, window k ratchet (ratchet + store.started) store.records fits, add-sub_cancel_left k ratchet)
+
+  -- the record of a month, and what it says of the months
+  pub month_found : (k : ℕ) (records : List MonthRecord) (found : Option (Bor MonthRecord)) → records ≡ take store.started (drop ratchet store.records) → is_some found ≡ ltb k (length records) → IfSome found (λ month. month.now ≡ get_or records k month.now) → MatchOption (option_copied found) (store.started ≤ k) (λ month. (k < store.started) × (month ≡ record_in store.records k))
+  month_found k records (Some month) are there read =
+      let many : length records ≡ store.started = ap length are ∙ simp (length-take, length-drop) (omega arith) in
+      let here : k < store.started = omega (arith, ltb-true k (length records) (sym there), many) in
+      (here, read ∙ ap (λ months. get_or months k month.now) are ∙ month_recorded k month.now here)
+  month_found k records None are there read =
+      let many : length records ≡ store.started = ap length are ∙ simp (length-take, length-drop) (omega arith) in
+      omega (arith, ltb-false k (length records) (sym there), many)
+
+  pub record_found : (k : ℕ) (found : Option MonthRecord) → MatchOption found (store.started ≤ k) (λ month. (k < store.started) × (month ≡ record_in store.records k)) → MatchOption found (length (months_of store) ≤ k) (λ month. (k < length (months_of store)) × (month.days ≡ (get_or (months_of store) k no_month).days) × (month.state ≡ (get_or (months_of store) k no_month).state) × (month.peak ≡ peak (get_or (months_of store) k no_month)))
+  unfolding month_of
+  record_found k (Some month) kept =
+      rw (get_or_months store k no_month kept.0) (omega (arith, length_months store, kept.0), ap (λ m. m.days) kept.1, ap (λ m. m.state) kept.1, ap (λ m. m.peak) kept.1 ∙ sym (peak_kept k kept.0))
+  record_found k None past = omega (arith, length_months store, past)
+
+  pub days_found : (k days : ℕ) (found : Option MonthRecord) → MatchOption found (store.started ≤ k) (λ month. (k < store.started) × (month ≡ record_in store.records k)) → MatchOption found (days ≡ 0) (λ month. days ≡ month.days) → (days ≡ (get_or (months_of store) k no_month).days) × (days ≤ 31) × (0 < days → (k < store.started) × (days ≡ (record_in store.records k).days))
+  unfolding month_of no_month fresh
+  days_found k days (Some month) kept are =
+      let same : days ≡ (record_in store.records k).days = are ∙ ap (λ m. m.days) kept.1 in
+      (same ∙ sym (ap (λ m. m.days) (get_or_months store k no_month kept.0)), omega (arith, same, (record_in store.records k).length.1), λ some. (kept.0, same))
+  days_found k days None past are =
+      (are ∙ sym (ap (λ m. m.days) (month_past k past)), omega (arith, are), λ some. absurd (omega (arith, are)))

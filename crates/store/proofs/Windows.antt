@@ -1,14 +1,32 @@
 -- Parts of memory and of the records, place by place.
-use Rattle.std.proofs.Common.{◌≡◌, ℕ, ◌+◌, ◌-◌, ◌<◌, ◌≤◌, min, Bool, cond, List, [], ◌∷◌, ◌++◌, map, length, get_or, take, drop, sym, refl, ap, ⊎_elim, arith}
-use Rattle.std.specs.List.{range_with_len, prefix_len}
+use Rattle.std.proofs.Common.{◌≡◌, ℕ, ◌+◌, ◌-◌, ◌<◌, ◌≤◌, min, Bool, not, ltb, cond, Some, None, Option, List, [], ◌∷◌, ◌++◌, map, length, get_or, take, drop, sym, refl, ap, ⊎_elim, arith}
+use Rattle.std.specs.Prelude.{MatchOption}
+use Rattle.std.specs.List.{position, prefix_len, range_with_len}
+use Rattle.std.proofs.Math.Bool.{not-not}
+use Rattle.std.proofs.lemmas.List.Sums.{prefix_len-le-length}
 use Rattle.std.proofs.lemmas.List.FromFn.{length-map-range_with_len, take-map-range_with_len, fill_by_all}
-use Rattle.std.proofs.lemmas.List.{get_or-take, get_or-drop, length-take-le, length-drop, drop-take, take_all, take-append-drop, take-take}
-use Rattle.std.proofs.lemmas.Bool.{cases_lt}
+use Rattle.std.proofs.lemmas.List.{get_or-take, get_or-drop, length-map, length-take-le, length-drop, drop-take, take_all, take-append-drop, take-take}
+use Rattle.std.proofs.lemmas.Bool.{cases_lt, cond_both, ltb-false, ltb-true}
 
 -- the first that fails a test, of a list that was made from another
 pub leading_map : {X Y : Type 0} (p : Y → Bool) (f : X → Y) (xs : List X) → prefix_len p (map f xs) ≡ prefix_len (λ x. p (f x)) xs
 leading_map p f [] = refl
 leading_map p f (x ∷ xs) = ap (λ n. cond (p (f x)) (1 + n) 0) (leading_map p f xs)
+
+pub position_map : {X Y : Type 0} (p : Y → Bool) (f : X → Y) (xs : List X) → position p (map f xs) ≡ position (λ x. p (f x)) xs
+position_map p f xs = rw (leading_map (λ y. not (p y)) f xs, length-map xs f)
+
+leading_not : {X : Type 0} (p : X → Bool) (xs : List X) → prefix_len (λ x. not (not (p x))) xs ≡ prefix_len p xs
+leading_not p [] = refl
+leading_not p (x ∷ xs) = rw (not-not (p x), leading_not p xs)
+
+pub position_fails : {X : Type 0} (p : X → Bool) (xs : List X) (found : Option ℕ) → found ≡ position (λ x. not (p x)) xs → MatchOption found (prefix_len p xs ≡ length xs) (λ i. (prefix_len p xs ≡ i) × (i < length xs))
+position_fails p xs found is =
+    let n = prefix_len p xs in
+    let most = prefix_len-le-length p xs in
+    let Fails : Option ℕ → Type 0 = λ found. MatchOption found (n ≡ length xs) (λ i. (n ≡ i) × (i < length xs)) in
+    rw (is, leading_not p xs)
+    (cond_both (ltb n (length xs)) (Some n) None Fails (λ less. (refl, ltb-true n (length xs) less)) (λ more. omega (arith, ltb-false n (length xs) more)))
 
 -- a part of a list, place by place
 pub part_counted : {X : Type 0} (xs : List X) (a n : ℕ) (d : X) → a + n ≤ length xs → take n (drop a xs) ≡ map (λ j. get_or xs (a + j) d) (range_with_len 0 n)

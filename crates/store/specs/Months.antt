@@ -1,9 +1,12 @@
 -- A month on file: what was posted for it, the state that it is in, and what follows from it.
-use Rattle.std.specs.Prelude.{ℕ, ◌+◌, ◌-◌, ◌*◌, max, Bool, true, false, cond, ◌&&◌, List, [], ◌∷◌, ◌++◌, map, length, get_or, take, drop, replicate, is_some, Some, None, Option, nat_le, nat_lt, slice_index, slice_index_or, slice_set}
+use Rattle.std.specs.Prelude.{ℕ, ◌+◌, ◌-◌, ◌*◌, max, Bool, true, false, cond, ◌&&◌, List, [], ◌∷◌, ◌++◌, map, length, get_or, take, drop, replicate, is_none, Some, None, Option, option_map, nat_le, nat_lt, slice_index, slice_index_or, slice_set}
 use Rattle.std.proofs.lemmas.List.Edits.{sets}
-use Rattle.std.specs.List.{range_with_len, prefix_len}
+use Rattle.std.specs.Option.{option_or}
+use Rattle.std.specs.List.{position, prefix_len, range_with_len}
 use Rattle.tariff.specs.Limits.{most_demand}
 use Rattle.tariff.specs.declared.hours.HourRow.{HourRow}
+use Rattle.store.specs.declared.missing.Missing.{Missing}
+use Rattle.store.specs.declared.missing.Missing.TheVariants.{Reading as Unread, Price as Unpriced}
 use Rattle.store.specs.declared.reading.Reading.{Reading}
 use Rattle.store.specs.declared.state.State.{State}
 use Rattle.store.specs.declared.state.State.TheVariants.{Open, Billed, Final}
@@ -96,12 +99,18 @@ with_state state month = record {
 abbrev pub altered : ℕ → (Month → Month) → List Month → List Month
 altered k alter months = slice_set months k (alter (slice_index_or months k no_month))
 
--- the first reading that is missing, by its quarter, else the first price, by 3,000 and its hour
-unfoldable pub missing : Month → Option ℕ
-missing month =
-    let read = prefix_len is_some month.readings in
-    let priced = prefix_len (λ hour. is_some hour.price) month.hours in
-    cond (nat_lt read (length month.readings)) (Some read) (cond (nat_lt priced (length month.hours)) (Some (3000 + priced)) None)
+-- the first reading that is missing, else the first price
+unfoldable pub first_missing : Month → Option Missing
+first_missing month =
+    option_or (option_map Unread (position is_none month.readings)) (option_map Unpriced (position (λ hour. is_none hour.price) month.hours))
+
+-- a missing reading by its quarter, a missing price by 3,000 and its hour
+abbrev pub place_of : Missing → ℕ
+place_of (Unread quarter) = quarter
+place_of (Unpriced hour) = 3000 + hour
+
+abbrev pub missing : Month → Option ℕ
+missing month = option_map place_of (first_missing month)
 
 -- what a place counts where no reading or price is on file: nothing
 abbrev pub kw_of : Option Reading → ℕ

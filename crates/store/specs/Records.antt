@@ -1,7 +1,7 @@
 -- The months that a store's memory and records hold.
-use Rattle.std.specs.Prelude.{ℕ, ◌*◌, cond, List, map, take, drop, Some, None, Option, nat_le}
+use Rattle.std.specs.Prelude.{◌≡◌, ℕ, ◌+◌, ◌*◌, ◌<◌, cond, List, map, take, drop, Some, None, Option, nat_le, slice_index_or}
 use Rattle.std.proofs.Common.{lit≤}
-use Rattle.store.specs.Months.{HourOnFile, quarters_of, kw_of, top}
+use Rattle.store.specs.Months.{HourOnFile, quarters_of, kw_of, ratchet, top}
 use Rattle.store.specs.declared.reading.Reading.{Reading}
 use Rattle.store.specs.declared.quarter.Quarter.{Quarter}
 use Rattle.store.specs.declared.quarter.Hour.{Hour}
@@ -26,3 +26,12 @@ peak_in quarters k days = top (map (λ quarter. kw_of (reading_of quarter)) (str
 -- a record as a store has them before any month is started
 abbrev pub first_record : MonthRecord
 first_record = record { days = 28; state = Open; peak = 0; length = (lit≤ tt, lit≤ tt); within = lit≤ tt }
+
+-- the record of the month at place k, after those of the months before month 1
+abbrev pub record_in : List MonthRecord → ℕ → MonthRecord
+record_in records k = slice_index_or records (ratchet + k) first_record
+
+-- the peak kept for a month is the highest kW of its stretch
+abbrev pub PeaksKept : List MonthRecord → ℕ → List Quarter → Type 0
+PeaksKept records started quarters =
+    (k : ℕ) → k < started → (record_in records k).peak ≡ peak_in quarters k (record_in records k).days

@@ -1,22 +1,9 @@
 -- What a store holds: its months, the peaks before them, and its room.
-use Rattle.std.specs.Prelude.{◌≡◌, ℕ, ◌+◌, ◌*◌, ◌/◌, ◌<◌, ◌≤◌, min, List, map, length, take, slice_index_or}
+use Rattle.std.specs.Prelude.{ℕ, ◌+◌, ◌/◌, min, List, map, length, take, slice_index_or}
 use Rattle.std.specs.List.{range_with_len}
 use Rattle.store.specs.Months.{Month, quarters_of, hours_of, ratchet}
-use Rattle.store.specs.Records.{first_record, hour_of, peak_in, reading_of, stretch}
+use Rattle.store.specs.Records.{first_record, hour_of, reading_of, stretch}
 use Rattle.store.specs.declared.store.Store.{Store}
-
--- the months fit the records and the memory
-abbrev pub Fitting : Store → Type 0
-Fitting store =
-    (length store.records ≡ 72) × (store.started ≤ 48) × (2976 * store.started ≤ length store.memory.quarters.now) × (744 * store.started ≤ length store.memory.hours.now)
-
--- the peak kept for a month is the highest kW of its stretch
-abbrev pub PeaksKept : Store → Type 0
-PeaksKept store =
-    (k : ℕ) → k < store.started → (slice_index_or store.records (ratchet + k) first_record).peak ≡ peak_in store.memory.quarters.now k (slice_index_or store.records (ratchet + k) first_record).days
-
-abbrev pub Sound : Store → Type 0
-Sound store = Fitting store × PeaksKept store
 
 -- the month at place k, from 0
 unfoldable pub month_of : Store → ℕ → Month

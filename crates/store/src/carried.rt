@@ -1,7 +1,8 @@
 // Peaks carried from before month 1.
-ghost use Rattle.std.specs.Prelude.{◌≡◌};
-ghost use Rattle.store.specs.Months.{carriable};
+ghost use Rattle.std.specs.Prelude.{◌≡◌, true, map, length};
+ghost use Rattle.store.specs.Months.{aged, carriable, ratchet};
 
+use crate::month::MonthRecord;
 use crate::store::RATCHET;
 use tariff::MOST_DEMAND;
 
@@ -9,13 +10,17 @@ use tariff::MOST_DEMAND;
 pub(crate) fn can_carry(carried: &[u32]) -> bool
     ensures { result ≡ carriable carried.now }
 {
-    if carried.len() > RATCHET {
-        return false;
+    carried.len() <= RATCHET && carried.iter().all(|peak| *peak <= MOST_DEMAND)
+}
+
+// The peaks, the latest first, over the records of the months before month 1, the oldest first;
+// 0 where none was carried.
+pub(crate) fn write(records: &mut [MonthRecord], carried: &[u32])
+    requires carriable { carriable carried.now ≡ true }
+    requires counted { length records.old ≡ ratchet }
+    ensures { map (λ month. month.peak) records.new ≡ aged carried.now }
+{
+    for i in 0..RATCHET {
+        records[i].peak = carried.get(RATCHET - 1 - i).copied().unwrap_or(0);
     }
-    for peak in carried {
-        if *peak > MOST_DEMAND {
-            return false;
-        }
-    }
-    true
 }

@@ -3,11 +3,12 @@
 #![tactic(auto)]
 
 mod carried;
-mod condition;
 mod day;
 mod demand;
+mod errors;
 mod figures;
 mod memory;
+mod missing;
 mod month;
 mod month_hours;
 mod months;
@@ -16,12 +17,15 @@ mod orders;
 mod posts;
 mod quarter;
 mod reading;
+mod records;
 mod rows;
 mod state;
 mod store;
 mod stretch;
 
 pub use demand::Demand;
+pub use errors::{CannotCarry, OutsideLimit};
+pub use missing::Missing;
 pub use month::MonthRecord;
 pub use month_hours::MonthHours;
 pub use quarter::{Hour, Quarter};

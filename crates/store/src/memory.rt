@@ -11,6 +11,7 @@ use crate::orders::{Kw, highest_of};
 use crate::quarter::{Hour, Quarter};
 use crate::reading::Reading;
 use crate::store::{DAY_HOURS, DAY_QUARTERS, MONTH_HOURS, MONTH_QUARTERS};
+use crate::stretch::month_stretch;
 
 #[derive(Drop)]
 pub(crate) struct Memory<'a> {
@@ -25,8 +26,8 @@ impl Memory<'_> {
         ensures counted { result ≡ peak_in self.now.quarters.now k days }
         ensures within { result ≤ most_demand }
     {
-        let first = MONTH_QUARTERS * k;
-        highest_of::<Quarter, Kw>(&self.quarters[first..first + DAY_QUARTERS * days])
+        let month = month_stretch(self.quarters, MONTH_QUARTERS, k, DAY_QUARTERS * days);
+        highest_of::<Quarter, Kw>(month)
     }
 
     // Readings within their limits, over the quarters from a place on.

@@ -1,8 +1,8 @@
 // The months of a store: how many there are, and their records.
-ghost use Rattle.std.specs.Prelude.{◌≡◌, ◌+◌, ◌/◌, ◌<◌, ◌≤◌, min, [], length, MatchOption, slice_index_or};
-ghost use Rattle.store.specs.Months.{aged, altered, no_month, with_state};
-ghost use Rattle.store.specs.Records.{first_record};
-ghost use Rattle.store.specs.Stores.{Sound, before_of, capacity_of, months_of};
+ghost use Rattle.std.specs.Prelude.{◌≡◌, ◌+◌, ◌/◌, ◌<◌, ◌≤◌, min, [], drop, length, take, MatchOption, slice_index_or};
+ghost use Rattle.store.specs.Months.{aged, altered, no_month, peak, ratchet, with_state};
+ghost use Rattle.store.specs.Records.{record_in};
+ghost use Rattle.store.specs.Stores.{before_of, capacity_of, months_of};
 
 use crate::memory::Memory;
 use crate::month::MonthRecord;
@@ -16,7 +16,6 @@ impl<'a> Store<'a> {
         ensures months { months_of result ≡ [] }
         ensures before { before_of result ≡ aged [] }
         ensures capacity { capacity_of result ≡ min 48 (min (length quarters.old / 2976) (length hours.old / 744)) }
-        ensures sound { Sound result }
         ensures memory { (result.memory.quarters.now ≡ quarters.old) × (result.memory.hours.now ≡ hours.old) }
     {
         let none = MonthRecord {
@@ -42,37 +41,16 @@ impl<'a> Store<'a> {
 
     // The record of the month at a place, from 0.
     pub fn record(&self, k: usize) -> Option<MonthRecord>
-        requires { Sound self.now }
-        ensures { MatchOption result (length (months_of self.now) ≤ k) (λ month. (k < length (months_of self.now)) × (month.days ≡ (slice_index_or (months_of self.now) k no_month).days) × (month.state ≡ (slice_index_or (months_of self.now) k no_month).state)) }
+        ensures { MatchOption result (length (months_of self.now) ≤ k) (λ month. (k < length (months_of self.now)) × (month.days ≡ (slice_index_or (months_of self.now) k no_month).days) × (month.state ≡ (slice_index_or (months_of self.now) k no_month).state) × (month.peak ≡ peak (slice_index_or (months_of self.now) k no_month))) }
     {
-        if k < self.started {
-            Some(self.records[RATCHET + k])
-        } else {
-            None
-        }
-    }
-
-    // The days of the month at a place; 0 past the last month.
-    pub(crate) fn days_of(&self, k: usize) -> usize
-        requires { Sound self.now }
-        ensures months { result ≡ (slice_index_or (months_of self.now) k no_month).days }
-        ensures within { result ≤ 31 }
-        ensures there { 0 < result → (k < self.now.started) × (result ≡ (slice_index_or self.now.records (24 + k) first_record).days) }
-    {
-        if k < self.started {
-            self.records[RATCHET + k].days as usize
-        } else {
-            0
-        }
+        self.month(k)
     }
 
     // Puts the month at a place, from 0, in a state; there is nothing to do past the last month.
     pub fn set_state(&mut self, k: usize, state: State)
-        requires { Sound self.old }
         ensures months { months_of self.new ≡ altered k (with_state state) (months_of self.old) }
         ensures before { before_of self.new ≡ before_of self.old }
         ensures capacity { capacity_of self.new ≡ capacity_of self.old }
-        ensures sound { Sound self.new }
     {
         if k < self.started {
             self.records[RATCHET + k].state = state;

@@ -1,9 +1,10 @@
 // What a quarter and an hour have on file.
-ghost use Rattle.std.specs.Prelude.{◌≡◌, ◌≤◌, true, false, Some, MatchOption};
+ghost use Rattle.std.specs.Prelude.{◌≡◌, ◌≤◌, true, false, Some, MatchResult};
 ghost use Rattle.tariff.specs.Limits.{most_demand};
 ghost use Rattle.store.specs.Months.{kw_of, kva_of, reading_within};
 ghost use Rattle.store.specs.Records.{reading_of, hour_of};
 
+use crate::errors::OutsideLimit;
 use crate::quarter::{Hour, Quarter};
 use crate::reading::Reading;
 use tariff::{MOST_DEMAND, MOST_PRICE};
@@ -16,32 +17,30 @@ impl Reading {
     }
 }
 
-impl Quarter {
-    // The quarter that has a reading on file; none where the reading is outside its limits.
-    pub(crate) fn holding(reading: Reading) -> Option<Quarter>
-        ensures { MatchOption result (reading_within reading ≡ false) (λ quarter. (reading_within reading ≡ true) × (reading_of quarter ≡ Some reading)) }
-    {
-        if reading.within() {
-            Some(Quarter {
-                kw: reading.kw,
-                kva: reading.kva,
-            })
-        } else {
-            None
-        }
-    }
+impl TryFrom<Reading> for Quarter {
+    type Error = OutsideLimit;
 
+    ghost try_from_gives = { λ reading result. MatchResult result (λ quarter. (reading_within reading ≡ true) × (reading_of quarter ≡ Some reading)) (λ outside. (reading_within reading ≡ false) × (outside.place ≡ 0)) };
+
+    fn try_from(reading: Reading) -> Result<Quarter, OutsideLimit> {
+        if !reading.within() {
+            return Err(OutsideLimit { place: 0 });
+        }
+        Ok(Quarter {
+            kw: reading.kw,
+            kva: reading.kva,
+        })
+    }
+}
+
+impl Quarter {
     pub(crate) fn reading(&self) -> Option<Reading>
         ensures { result ≡ reading_of self.now }
     {
-        if self.kw <= self.kva {
-            Some(Reading {
-                kw: self.kw,
-                kva: self.kva,
-            })
-        } else {
-            None
-        }
+        (self.kw <= self.kva).then_some(Reading {
+            kw: self.kw,
+            kva: self.kva,
+        })
     }
 
     // A quarter never posted counts as 0.
@@ -49,14 +48,14 @@ impl Quarter {
         ensures counted { result ≡ kw_of (reading_of self.now) }
         ensures within { result ≤ most_demand }
     {
-        if self.kw <= self.kva { self.kw } else { 0 }
+        self.reading().map_or(0, |reading| reading.kw)
     }
 
     pub(crate) fn kva(&self) -> u32
         ensures counted { result ≡ kva_of (reading_of self.now) }
         ensures within { result ≤ most_demand }
     {
-        if self.kw <= self.kva { self.kva } else { 0 }
+        self.reading().map_or(0, |reading| reading.kva)
     }
 }
 
@@ -64,16 +63,6 @@ impl Hour {
     pub(crate) fn price(&self) -> Option<u32>
         ensures { result ≡ (hour_of self.now).price }
     {
-        if self.price <= MOST_PRICE {
-            Some(self.price)
-        } else {
-            None
-        }
-    }
-
-    pub(crate) fn scheduled(&self) -> u32
-        ensures { result ≡ (hour_of self.now).scheduled }
-    {
-        self.scheduled
+        (self.price <= MOST_PRICE).then_some(self.price)
     }
 }

@@ -1,11 +1,10 @@
 // What is posted to a store.
-ghost use Rattle.std.specs.Prelude.{◌≡◌, ◌*◌, true, false, [], ◌∷◌, ◌++◌, length, is_some, is_ok, None};
+ghost use Rattle.std.specs.Prelude.{◌≡◌, ◌*◌, true, false, [], ◌∷◌, ◌++◌, length, is_ok, Some, None, MatchResult, OnErr, OnOk};
 ghost use Rattle.store.specs.Months.{aged, altered, carriable, day_fault, fresh, price_within, reading_within, scheduled_within, with_price, with_readings, with_scheduled};
 ghost use Rattle.store.specs.Starts.{start_answer};
-ghost use Rattle.store.specs.Stores.{Sound, before_of, capacity_of, months_of};
+ghost use Rattle.store.specs.Stores.{before_of, capacity_of, months_of};
 
-use crate::carried::can_carry;
-use crate::day::day_fault;
+use crate::errors::{CannotCarry, OutsideLimit};
 use crate::month::MonthRecord;
 use crate::quarter::Quarter;
 use crate::reading::Reading;
@@ -13,18 +12,17 @@ use crate::state::State;
 use crate::store::{
     DAY_HOURS, DAY_QUARTERS, LEAST_DAYS, MONTH_HOURS, MONTH_QUARTERS, MOST_DAYS, RATCHET, Store,
 };
+use crate::{carried, day};
 use tariff::{MOST_DEMAND, MOST_PRICE, Refusal};
 
 impl Store<'_> {
     // Starts the next month; its number, from 1.
     pub fn start(&mut self, days: u32) -> Result<u32, Refusal>
-        requires { Sound self.old }
         ensures result { result ≡ start_answer (capacity_of self.old) (length (months_of self.old)) days }
         ensures months { is_ok result ≡ true → months_of self.new ≡ months_of self.old ++ (fresh days ∷ []) }
         ensures refused { is_ok result ≡ false → self.new ≡ self.old }
         ensures before { before_of self.new ≡ before_of self.old }
         ensures capacity { capacity_of self.new ≡ capacity_of self.old }
-        ensures sound { Sound self.new }
     {
         if self.started >= self.capacity() {
             return Err(Refusal::NoMonthFree);
@@ -43,45 +41,39 @@ impl Store<'_> {
         Ok(k as u32 + 1)
     }
 
-    // The peaks of the months before month 1, the latest first; false, with nothing carried, where
-    // there are more than the ratchet looks back or one is outside its limit.
-    pub fn carry(&mut self, carried: &[u32]) -> bool
-        requires { Sound self.old }
-        ensures result { result ≡ carriable carried.now }
-        ensures before { result ≡ true → before_of self.new ≡ aged carried.now }
-        ensures refused { result ≡ false → self.new ≡ self.old }
+    // The peaks of the months before month 1, the latest first; none is carried where there are more
+    // than the ratchet looks back or one is outside its limit.
+    pub fn carry(&mut self, carried: &[u32]) -> Result<(), CannotCarry>
+        ensures result { is_ok result ≡ carriable carried.now }
+        ensures before { OnOk result (before_of self.new ≡ aged carried.now) }
+        ensures refused { OnErr result (self.new ≡ self.old) }
         ensures months { months_of self.new ≡ months_of self.old }
         ensures capacity { capacity_of self.new ≡ capacity_of self.old }
-        ensures sound { Sound self.new }
     {
-        if !can_carry(carried) {
-            return false;
+        if !carried::can_carry(carried) {
+            return Err(CannotCarry);
         }
-        for i in 0..RATCHET {
-            let back = RATCHET - 1 - i;
-            let peak = if back < carried.len() {
-                carried[back]
-            } else {
-                0
-            };
-            self.records[i].peak = peak;
-        }
-        true
+        // a field of a store is not lent in part
+        let mut records = self.records;
+        carried::write(&mut records[..RATCHET], carried);
+        self.records = records;
+        Ok(())
     }
 
-    // A quarter's reading, both places from 0; false where it is outside its limits.
-    pub fn put_reading(&mut self, k: usize, quarter: usize, reading: Reading) -> bool
-        requires { Sound self.old }
-        ensures result { result ≡ reading_within reading }
-        ensures months { result ≡ true → months_of self.new ≡ altered k (with_readings quarter (reading ∷ [])) (months_of self.old) }
-        ensures refused { result ≡ false → self.new ≡ self.old }
+    // A quarter's reading, both places from 0, which may be outside its limits.
+    pub fn put_reading(
+        &mut self,
+        k: usize,
+        quarter: usize,
+        reading: Reading,
+    ) -> Result<(), OutsideLimit>
+        ensures result { MatchResult result (λ _. reading_within reading ≡ true) (λ outside. (reading_within reading ≡ false) × (outside.place ≡ 0)) }
+        ensures months { OnOk result (months_of self.new ≡ altered k (with_readings quarter (reading ∷ [])) (months_of self.old)) }
+        ensures refused { OnErr result (self.new ≡ self.old) }
         ensures before { before_of self.new ≡ before_of self.old }
         ensures capacity { capacity_of self.new ≡ capacity_of self.old }
-        ensures sound { Sound self.new }
     {
-        let Some(posted) = Quarter::holding(reading) else {
-            return false;
-        };
+        let posted = Quarter::try_from(reading)?;
         let days = self.days_of(k);
         if quarter < DAY_QUARTERS * days {
             let first = MONTH_QUARTERS * k;
@@ -98,23 +90,24 @@ impl Store<'_> {
             };
             self.records[RATCHET + k].peak = peak;
         }
-        true
+        Ok(())
     }
 
-    // A day's 96 readings, both places from 0. Where they are at fault nothing is posted, and the
-    // answer is the first reading outside its limits, or 96 where there are not 96.
-    pub fn put_day(&mut self, k: usize, day: usize, readings: &[Reading]) -> Option<usize>
-        requires { Sound self.old }
-        ensures result { result ≡ day_fault readings.now }
-        ensures months { result ≡ None → months_of self.new ≡ altered k (with_readings (96 * day) readings.now) (months_of self.old) }
-        ensures refused { is_some result ≡ true → self.new ≡ self.old }
+    // A day's 96 readings, both places from 0; none is posted where one is outside its limits or
+    // there are not 96.
+    pub fn put_day(
+        &mut self,
+        k: usize,
+        day: usize,
+        readings: &[Reading],
+    ) -> Result<(), OutsideLimit>
+        ensures result { MatchResult result (λ _. day_fault readings.now ≡ None) (λ outside. day_fault readings.now ≡ Some outside.place) }
+        ensures months { OnOk result (months_of self.new ≡ altered k (with_readings (96 * day) readings.now) (months_of self.old)) }
+        ensures refused { OnErr result (self.new ≡ self.old) }
         ensures before { before_of self.new ≡ before_of self.old }
         ensures capacity { capacity_of self.new ≡ capacity_of self.old }
-        ensures sound { Sound self.new }
     {
-        if let Some(fault) = day_fault(readings) {
-            return Some(fault);
-        }
+        day::check(readings)?;
         let days = self.days_of(k);
         if day < days {
             let first = MONTH_QUARTERS * k + DAY_QUARTERS * day;
@@ -122,44 +115,40 @@ impl Store<'_> {
             let peak = self.memory.peak(k, days);
             self.records[RATCHET + k].peak = peak;
         }
-        None
+        Ok(())
     }
 
-    // The pool price of an hour, both places from 0; false where it is outside its limit.
-    pub fn put_price(&mut self, k: usize, hour: usize, price: u32) -> bool
-        requires { Sound self.old }
-        ensures result { result ≡ price_within price }
-        ensures months { result ≡ true → months_of self.new ≡ altered k (with_price hour price) (months_of self.old) }
-        ensures refused { result ≡ false → self.new ≡ self.old }
+    // The pool price of an hour, both places from 0, which may be outside its limit.
+    pub fn put_price(&mut self, k: usize, hour: usize, price: u32) -> Result<(), OutsideLimit>
+        ensures result { MatchResult result (λ _. price_within price ≡ true) (λ outside. (price_within price ≡ false) × (outside.place ≡ 0)) }
+        ensures months { OnOk result (months_of self.new ≡ altered k (with_price hour price) (months_of self.old)) }
+        ensures refused { OnErr result (self.new ≡ self.old) }
         ensures before { before_of self.new ≡ before_of self.old }
         ensures capacity { capacity_of self.new ≡ capacity_of self.old }
-        ensures sound { Sound self.new }
     {
         if price > MOST_PRICE {
-            return false;
+            return Err(OutsideLimit { place: 0 });
         }
         if hour < DAY_HOURS * self.days_of(k) {
             self.memory.hours[MONTH_HOURS * k + hour].price = price;
         }
-        true
+        Ok(())
     }
 
-    // The scheduled kW of an hour, both places from 0; false where it is outside its limit.
-    pub fn put_scheduled(&mut self, k: usize, hour: usize, kw: u32) -> bool
-        requires { Sound self.old }
-        ensures result { result ≡ scheduled_within kw }
-        ensures months { result ≡ true → months_of self.new ≡ altered k (with_scheduled hour kw) (months_of self.old) }
-        ensures refused { result ≡ false → self.new ≡ self.old }
+    // The scheduled kW of an hour, both places from 0, which may be outside its limit.
+    pub fn put_scheduled(&mut self, k: usize, hour: usize, kw: u32) -> Result<(), OutsideLimit>
+        ensures result { MatchResult result (λ _. scheduled_within kw ≡ true) (λ outside. (scheduled_within kw ≡ false) × (outside.place ≡ 0)) }
+        ensures months { OnOk result (months_of self.new ≡ altered k (with_scheduled hour kw) (months_of self.old)) }
+        ensures refused { OnErr result (self.new ≡ self.old) }
         ensures before { before_of self.new ≡ before_of self.old }
         ensures capacity { capacity_of self.new ≡ capacity_of self.old }
-        ensures sound { Sound self.new }
     {
         if kw > MOST_DEMAND {
-            return false;
+            return Err(OutsideLimit { place: 0 });
         }
         if hour < DAY_HOURS * self.days_of(k) {
             self.memory.hours[MONTH_HOURS * k + hour].scheduled = kw;
         }
-        true
+        Ok(())
     }
 }

@@ -47,7 +47,7 @@ pub(crate) fn fill_rows(rows: &mut [HourRow], quarters: &[Quarter], hours: &[Hou
         rows[h] = HourRow {
             energy: energy(quarters, h),
             price: hour.price().unwrap_or(0),
-            scheduled: hour.scheduled(),
+            scheduled: hour.scheduled,
         };
     }
 }

@@ -3,7 +3,7 @@ ghost use Rattle.std.specs.Prelude.{◌≡◌};
 ghost use Rattle.store.specs.Months.{reached};
 
 // A month is open, then billed, then final, and never goes back.
-#[derive(Clone, Copy, PartialEq, Eq, Debug)]
+#[derive(Clone, Copy, PartialEq, Eq, PartialOrd, Ord, Debug)]
 pub enum State {
     Open,
     Billed,
@@ -14,11 +14,6 @@ impl State {
     pub fn has_reached(self, state: State) -> bool
         ensures { result ≡ reached state self }
     {
-        match (state, self) {
-            (State::Open, _)
-            | (State::Billed, State::Billed | State::Final)
-            | (State::Final, State::Final) => true,
-            (State::Billed | State::Final, _) => false,
-        }
+        self >= state
     }
 }

@@ -1,4 +1,7 @@
 // The months on file.
+ghost use Rattle.std.specs.Prelude.{◌≡◌, ◌*◌, ◌≤◌, length};
+ghost use Rattle.store.specs.Records.{PeaksKept};
+
 use crate::memory::Memory;
 use crate::month::MonthRecord;
 
@@ -25,12 +28,16 @@ pub(crate) const DAY_QUARTERS: usize = 96;
 
 pub(crate) const DAY_HOURS: usize = 24;
 
-// The months started in the lent memory, with the peaks of the months before them. A store is kept
-// sound by whoever holds it: with kit 8b a struct that holds one by value could not be made if
-// that were a fact of its type.
+// The months started in the lent memory, with the peaks of the months before them. The months have
+// records, and room in the memory, and the peak kept for each is the highest kW of its readings.
 #[derive(Drop)]
 pub struct Store<'a> {
     pub(crate) memory: Memory<'a>,
     pub(crate) records: [MonthRecord; RECORDS],
     pub(crate) started: usize,
+    ghost recorded: { length records ≡ 72 },
+    ghost few: { started ≤ 48 },
+    ghost quartered: { 2976 * started ≤ length memory.quarters.now },
+    ghost houred: { 744 * started ≤ length memory.hours.now },
+    ghost peaks: { PeaksKept records started memory.quarters.now },
 }

@@ -40,11 +40,11 @@ pub loop-h-preserved : goal.loop-h-preserved
 loop-h-preserved c =
     let hours = c.args.hours.now in
     let h = c.loop-h.h in
-    let row : HourRow = record { energy = c.energy.result; price = c.unwrap_or.result; scheduled = c.scheduled.result } in
+    let row : HourRow = record { energy = c.energy.result; price = c.unwrap_or.result; scheduled = c.index-hours-h.result.scheduled } in
     let price = c.unwrap_or.ensures ∙ ap (λ price. unwrap_or price 0) c.price.ensures in
     let here : h < length c.loop-h.rows = omega (arith, c.requires.room, c.loop-h.auto.rows, c.loop-h-test.true) in
-    let is : row ≡ hour_row (on_file c.args.quarters.now hours) h = row_is _ hours h c.index-hours-h.result row c.loop-h-test.true c.index-hours-h.is c.energy.ensures.summed price c.scheduled.ensures in
-    let within : HourWithin row = row_within c.args.quarters.now hours h c.index-hours-h.result row c.loop-h-test.true c.index-hours-h.is c.energy.ensures.summed price c.scheduled.ensures c.energy.ensures.within in (
+    let is : row ≡ hour_row (on_file c.args.quarters.now hours) h = row_is _ hours h c.index-hours-h.result row c.loop-h-test.true c.index-hours-h.is c.energy.ensures.summed price refl in
+    let within : HourWithin row = row_within c.args.quarters.now hours h c.index-hours-h.result row c.loop-h-test.true c.index-hours-h.is c.energy.ensures.summed price refl c.energy.ensures.within in (
       λ k below. rw is (fill_by_more (hour_row (on_file c.args.quarters.now hours)) c.loop-h.rows h no_hour here c.loop-h.invariant.0 k below),
       each_set HourWithin no_hour c.loop-h.rows h row within c.loop-h.invariant.1,
     )

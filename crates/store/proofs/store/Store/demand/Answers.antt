@@ -1,29 +1,29 @@
-use Rattle.std.proofs.Common.{◌≡◌, ◌+◌, get_or, sym, ◌∙◌}
-use Rattle.store.specs.Months.{apparent, no_month, peak, ratchet}
+use Rattle.std.proofs.Common.{◌≡◌, ap, get_or, sym, arith, ◌∙◌}
+use Rattle.store.specs.Months.{apparent, no_month, peak}
 use Rattle.store.specs.Stores.{months_of}
 use Rattle.store.proofs.Stretches.{get_or_months, length_months}
 use Rattle.store.proofs.Tops.{apparent_read, peak_under_apparent}
-use Rattle.store.proofs.Views.{earlier_recorded, peak_kept, record_at}
+use Rattle.store.proofs.Views.{earlier_recorded, peak_kept}
 use Rattle.store.proofs.store.Store.demand.Goals as goal
-
-pub returns-then-k-self : goal.returns-then-k-self
-returns-then-k-self c = rw (length_months c.args.self.now) c.if-k-self.true
 
 pub returns : goal.returns
 returns c =
     let store = c.args.self.now in
     let k = c.args.k in
-    let here = c.if-k-self.false in
-    let read = c.quarters.ensures.read in
+    let here = c.in_ok-month.ensures.0 in
     let month = get_or (months_of store) k no_month in
-    let kw : (get_or store.records (ratchet + k) c.index-self-k.result).peak ≡ peak month = rw (record_at store c.requires k c.index-self-k.result here, get_or_months store k no_month here) (sym (peak_kept store c.requires k here)) in
+    let read = c.quarters.ensures.read in
+    let kw : c.in_ok-month.month.peak ≡ peak month = ap (λ m. m.peak) c.in_ok-month.ensures.1 ∙ sym (ap peak (get_or_months store k no_month here) ∙ peak_kept store k here) in
     let kva : c.highest_of.result ≡ apparent month = c.highest_of.ensures.counted ∙ apparent_read month _ read in
     record {
-      there = rw (length_months store) here;
+      there = omega (arith, length_months store, here);
       kw = kw;
       kva = kva;
-      ratchet = c.highest_of-2.ensures.counted ∙ earlier_recorded store c.requires k here;
+      ratchet = c.highest_of-2.ensures.counted ∙ earlier_recorded store k here;
       ordered = rw (kw, kva) (peak_under_apparent month _ read);
       limited = c.highest_of.ensures.within;
       earlier_limited = c.highest_of-2.ensures.within;
     }
+
+pub returns-in_err-month : goal.returns-in_err-month
+returns-in_err-month c = rw c.from_residual.ensures (omega (arith, length_months c.args.self.now, c.in_err-month.ensures))

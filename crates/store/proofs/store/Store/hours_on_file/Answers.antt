@@ -1,13 +1,13 @@
 use Rattle.std.proofs.Common.{refl, arith}
 use Rattle.store.specs.Months.{fresh, no_month}
-use Rattle.store.proofs.Views.{days_limited, hours_read, month_past}
+use Rattle.store.proofs.Views.{month_past, hours_read}
 use Rattle.store.proofs.store.Store.hours_on_file.Goals as goal
 
-pub returns-then-k-self : goal.returns-then-k-self
+pub returns-in-None : goal.returns-in-None
 unfolding no_month fresh
-returns-then-k-self c = rw (month_past c.args.self.now c.requires c.args.k c.if-k-self.true) (record { read = refl; counted = refl; few = omega arith })
+returns-in-None c = rw (month_past c.args.self.now c.args.k c.in-None.ensures) (record { read = refl; counted = refl; few = omega arith })
 
-pub returns : goal.returns
-returns c =
-    let both = hours_read c.args.self.now c.requires c.args.k c.index-self-k.result c.if-k-self.false c.month_stretch.result.now c.month_stretch.ensures in
-    record { read = both.0; counted = both.1; few = omega (arith, both.1, days_limited c.args.self.now c.requires c.args.k c.index-self-k.result c.if-k-self.false) }
+pub returns-in-Some : goal.returns-in-Some
+returns-in-Some c =
+    let read = hours_read c.args.self.now c.args.k c.in-Some.month c.in-Some.ensures.0 c.in-Some.ensures.1 c.month_stretch.result.now c.month_stretch.ensures in
+    record { read = read.0; counted = read.1; few = read.2 }

@@ -1,6 +1,6 @@
 use Rattle.std.proofs.Common.{◌*◌, ◌<◌, sym, refl, arith}
 use Rattle.std.proofs.lemmas.List.{length-set}
-use Rattle.std.proofs.lemmas.Bool.{le-leb, true≢false}
+use Rattle.std.proofs.lemmas.Bool.{le-leb}
 use Rattle.store.specs.Months.{with_scheduled}
 use Rattle.store.specs.Stores.{before_of, capacity_of}
 use Rattle.store.proofs.Posted.{hour_past, months_with_scheduled, record_at}
@@ -14,21 +14,19 @@ returns-then-hour-days_of c =
     let started = c.days_of.ensures.there (omega arith) in
     let below : c.args.hour < 24 * (record_at store c.args.k).days = omega (arith, started.1) in
     record {
-      result = sym within;
-      months = λ yes. months_with_scheduled store _ c.requires c.args.k c.args.hour started.0 below c.args.kw _ c.index-self-k.result refl refl refl refl refl refl;
-      refused = λ no. elim (true≢false no) [ ];
+      result = within;
+      months = months_with_scheduled store _ c.args.k c.args.hour started.0 below c.args.kw _ c.index-self-k.result refl refl refl refl refl refl;
+      refused = tt;
       before = refl;
       capacity = simp length-set;
-      sound = ((c.requires.0.0, c.requires.0.1, c.requires.0.2, rw length-set c.requires.0.3), c.requires.1);
     }
 
 pub returns-else-hour-days_of : goal.returns-else-hour-days_of
 returns-else-hour-days_of c =
     record {
-      result = sym (le-leb c.args.kw 1000000 (omega arith));
-      months = λ yes. sym (hour_past c.args.self.now c.requires c.args.k c.args.hour (with_scheduled c.args.hour c.args.kw) _ (omega arith) refl);
-      refused = λ no. refl;
+      result = le-leb c.args.kw 1000000 (omega arith);
+      months = sym (hour_past c.args.self.now c.args.k c.args.hour (with_scheduled c.args.hour c.args.kw) _ (omega arith) refl);
+      refused = tt;
       before = refl;
       capacity = refl;
-      sound = c.requires;
     }

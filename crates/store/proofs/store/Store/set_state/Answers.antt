@@ -1,9 +1,9 @@
 use Rattle.std.proofs.Common.{◌+◌, sym, refl, ap, arith}
-use Rattle.std.proofs.lemmas.List.{get_or_default, length-set}
+use Rattle.std.proofs.lemmas.List.{get_or_default}
 use Rattle.store.specs.Months.{with_state}
 use Rattle.store.specs.Records.{first_record}
 use Rattle.store.specs.Stores.{capacity_of}
-use Rattle.store.proofs.Posted.{before_kept, months_with_state, peaks_with_state}
+use Rattle.store.proofs.Posted.{before_kept, months_with_state}
 use Rattle.store.proofs.Stretches.{altered_past}
 use Rattle.store.proofs.store.Store.set_state.Goals as goal
 
@@ -14,12 +14,11 @@ returns-then-k-self c =
     let there = c.if-k-self.true in
     let read = get_or_default store.records (24 + c.args.k) c.index-self-k.result first_record (omega arith) in
     record {
-      months = months_with_state store _ c.requires c.args.k _ (omega (arith, c.requires.0.1)) refl c.args.state there refl refl (ap (λ m. m.days) read) refl;
-      before = before_kept store _ c.requires c.args.k _ (omega (arith, c.requires.0.1)) refl;
+      months = months_with_state store _ c.args.k _ (omega arith) refl c.args.state there refl refl (ap (λ m. m.days) read) refl;
+      before = before_kept store _ c.args.k _ (omega arith) refl;
       capacity = refl;
-      sound = ((rw length-set c.requires.0.0, c.requires.0.1, c.requires.0.2, c.requires.0.3), peaks_with_state store _ c.requires c.args.k _ (omega (arith, c.requires.0.1)) refl refl refl (ap (λ m. m.days) read) (ap (λ m. m.peak) read));
     }
 
 pub returns-else-k-self : goal.returns-else-k-self
 returns-else-k-self c =
-    record { months = sym (altered_past c.args.self.now c.args.k (with_state c.args.state) c.if-k-self.false); before = refl; capacity = refl; sound = c.requires }
+    record { months = sym (altered_past c.args.self.now c.args.k (with_state c.args.state) c.if-k-self.false); before = refl; capacity = refl }

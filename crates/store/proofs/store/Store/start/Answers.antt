@@ -23,7 +23,6 @@ returns-then-self-capacity c =
       refused = λ no. refl;
       before = refl;
       capacity = refl;
-      sound = c.requires;
     }
 
 pub returns-then-days-lt-LEAST_DAYS : goal.returns-then-days-lt-LEAST_DAYS
@@ -42,7 +41,6 @@ returns-then-days-lt-LEAST_DAYS c =
       refused = λ no. refl;
       before = refl;
       capacity = refl;
-      sound = c.requires;
     }
 
 pub clear-requires : goal.clear-requires
@@ -51,7 +49,7 @@ clear-requires c =
     record { quarters_in_bounds = omega (arith, has.1); hours_in_bounds = omega (arith, has.2) }
 
 pub listed : goal.listed
-listed c = omega (arith, (room c.args.self.now (omega (arith, c.capacity.ensures))).0, c.requires.0.0)
+listed c = omega (arith, (room c.args.self.now (omega (arith, c.capacity.ensures))).0, c.args.self.now.recorded)
 
 pub bounds-self-k : goal.bounds-self-k
 bounds-self-k c = omega (arith, (room c.args.self.now (omega (arith, c.capacity.ensures))).0)
@@ -72,12 +70,25 @@ returns c =
     let cleared = c.clear.ensures.hours ∙ ap (λ a. sets (hours_in store) a (replicate (24 * days) (record { price = None; scheduled = 0 }))) (sym (add-zero (744 * k))) in
     record {
       result = rw (length_months store) (sym (cond-false _ _ _ free ∙ cond-false _ _ _ inside));
-      months = λ yes. months_started store _ c.requires days _ has.0 (omega arith) (omega (arith, has.1)) (omega (arith, has.2)) refl refl refl refl written cleared;
+      months = λ yes. months_started store _ days _ has.0 (omega arith) (omega (arith, has.1)) (omega (arith, has.2)) refl refl refl refl written cleared;
       refused = λ no. elim (true≢false no) [ ];
-      before = before_kept store _ c.requires k _ has.0 refl;
+      before = before_kept store _ k _ has.0 refl;
       capacity = rw (sizes.0, sizes.1) refl;
-      sound = (
-        (rw length-set c.requires.0.0, omega (arith, has.0), omega (arith, has.1, sizes.0), omega (arith, has.2, sizes.1)),
-        peaks_kept store c.requires k 0 (replicate (96 * days) None) (omega (arith, many)) quarters written _ has.0 (peak_cleared quarters store.memory.quarters.now k days (omega (arith, has.1)) written) (k + 1) (λ j h other. omega (arith, other)),
-      );
+    }
+
+pub invariant_of-self-2 : goal.invariant_of-self-2
+invariant_of-self-2 c =
+    let store = c.args.self.now in
+    let k = store.started in
+    let days = c.args.days in
+    let has = room store (omega (arith, c.capacity.ensures)) in
+    let quarters = c.clear.new.self.quarters.now in
+    let many = length-replicate {A = Option Reading} (96 * days) None in
+    let written = c.clear.ensures.quarters ∙ ap (λ a. sets (readings_in store) a (replicate (96 * days) None)) (sym (add-zero (2976 * k))) in
+    record {
+      recorded = rw length-set store.recorded;
+      few = omega (arith, has.0);
+      quartered = omega (arith, has.1, c.clear.ensures.sizes.0);
+      houred = omega (arith, has.2, c.clear.ensures.sizes.1);
+      peaks = peaks_kept store k 0 (replicate (96 * days) None) (omega (arith, many)) quarters written _ has.0 (peak_cleared quarters store.memory.quarters.now k days (omega (arith, has.1)) written) (k + 1) (λ j h other. omega (arith, other));
     }

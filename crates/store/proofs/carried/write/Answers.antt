@@ -1,0 +1,32 @@
+use Rattle.std.proofs.Common.{◌≡◌, ◌-◌, ◌≤◌, leb, length, map, get_or, ap, ◌∙◌, inl, inr, arith, rules}
+use Rattle.std.proofs.lemmas.List.FromFn.{fill_by_all}
+use Rattle.std.proofs.lemmas.List.{get_or-map, get_or-set_other, get_or-set_same, length-map}
+use Rattle.std.proofs.lemmas.Bool.{and_parts, cases_eq, leb-true}
+use Rattle.store.specs.Months.{aged, top}
+use Rattle.store.specs.Records.{first_record}
+use Rattle.store.proofs.Peaks.{le_top}
+use Rattle.store.proofs.carried.write.Goals as goal
+
+pub invariant_of-records : goal.invariant_of-records
+invariant_of-records c =
+    let carried = c.args.carried.now in
+    let most : top carried ≤ 1000000 = leb-true (top carried) 1000000 (and_parts (leb (length carried) 24) (leb (top carried) 1000000) c.requires.carriable).1 in
+    let peak : c.unwrap_or.result ≡ get_or carried (23 - c.loop-i.i) 0 = search rules in
+    λ d. (omega (arith, c.loop-i.auto.records), ((get_or c.loop-i.records c.loop-i.i d).length, (omega (arith, peak, le_top carried), tt)))
+
+pub loop-i-preserved : goal.loop-i-preserved
+loop-i-preserved c =
+    let i = c.loop-i.i in
+    let peak : c.unwrap_or.result ≡ get_or c.args.carried.now (23 - i) 0 = search rules in
+    λ j h. elim (cases_eq j i) [
+      | inl same ↦ rw same (ap (λ m. m.peak) (get_or-set_same c.loop-i.records i _ first_record (omega (arith, c.loop-i.auto.records))) ∙ peak)
+      | inr other ↦ ap (λ m. m.peak) (get_or-set_other c.loop-i.records i j _ first_record other) ∙ c.loop-i.invariant j (omega (arith, other))
+    ]
+
+pub returns : goal.returns
+unfolding aged
+returns c =
+    let records = c.loop-i.records in
+    let many : length records ≡ 24 = omega (arith, c.loop-i.auto.records) in
+    fill_by_all (λ i. get_or c.args.carried.now (24 - 1 - i) 0) (map (λ month. month.peak) records) 24 0 (length-map records _ ∙ many)
+    (λ k h. get_or-map (λ month. month.peak) records k first_record 0 (rw many h) ∙ c.loop-i.invariant k (omega arith))
