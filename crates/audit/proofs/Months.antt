@@ -6,7 +6,7 @@ use Rattle.std.proofs.lemmas.Bool.{both_ways, cases_eq, cases_lt}
 use Rattle.book.specs.Calls.{Post, reading, day, price, scheduled}
 use Rattle.book.specs.Steps.{with_post}
 use Rattle.book.specs.Views.{View, has_reached, place}
-use Rattle.ledger.proofs.Sums.{leading_before}
+use Rattle.std.proofs.lemmas.List.Sums.{prefix_len_passes}
 use Rattle.store.specs.Months.{Month, altered, first_short, fresh, no_month, quarters_of, reached}
 use Rattle.store.specs.declared.state.State.{State}
 use Rattle.store.specs.declared.state.State.TheVariants.{Open, Billed, Final}
@@ -111,6 +111,6 @@ module _ (post : Post) (month : Month) where
 -- where no earlier month is short of a state, each has reached it
 pub none_short : (state : State) (v : View) (m n : ℕ) → place m ≤ first_short state v.months (place m) → 1 ≤ n → n < m → has_reached state n v ≡ true
 none_short state v m n all low before =
-    let passes = leading_before (λ month. reached state month.state) (take (place m) v.months) (place n) no_month (omega arith) in
+    let passes = prefix_len_passes (λ month. reached state month.state) (take (place m) v.months) (place n) no_month (omega arith) in
     let same = get_or-take (place m) v.months (place n) no_month (omega arith) in
     ap (λ month. reached state month.state) (sym same) ∙ passes

@@ -1,9 +1,11 @@
 -- Months that are not billed have no entry that counts: what a bill and a true-up leave of that.
-use Rattle.std.proofs.Common.{◌≡◌, ℕ, ◌+◌, ◌<◌, true, false, List, [], ◌∷◌, ◌++◌, length, get_or, ℤ, pos, Ok, Err, Result, sym, refl, ap, ◌∙◌, inl, inr, arith}
+use Rattle.std.proofs.Common.{◌≡◌, ℕ, ◌+◌, ◌<◌, true, false, List, [], ◌∷◌, ◌++◌, length, get_or, ℤ, pos, Ok, Err, Result, OnOk, OnErr, sym, refl, ap, ◌∙◌, inl, inr, arith}
 use Rattle.std.proofs.lemmas.List.{get_or_append_left, get_or_past, get_or-set_other, get_or-set_same}
 use Rattle.std.proofs.lemmas.Bool.{cases_eq, cases_lt, true≢false}
 use Rattle.ledger.specs.Entries.{entries_for, line_sum, owed, sums}
-use Rattle.ledger.specs.Ledgers.{written_or}
+use Rattle.ledger.specs.Ledgers.{entries_of}
+use Rattle.ledger.specs.declared.ledger.Ledger.{Ledger}
+use Rattle.ledger.specs.declared.ledger.NoRoom.{NoRoom}
 use Rattle.ledger.specs.declared.entry.Entry.{Entry}
 use Rattle.ledger.specs.declared.entry.Letter.{Letter}
 use Rattle.ledger.specs.declared.entry.Letter.TheVariants.{Bill, TrueUp}
@@ -48,11 +50,12 @@ module _ (months : List Month) (entries : List Entry) (unbilled : Unbilled month
               (other, sym (ap (λ month. reached Billed month.state) old) ∙ opened)
         ])
 
-    pub unbilled_trued : reached Billed (get_or months at no_month).state ≡ true → (r : Result ℕ ℕ) → Unbilled months (written_or r (owed TrueUp m amounts entries) entries)
-    unbilled_trued billed (Ok count) =
-        others TrueUp months
-        (λ k opened. (λ same. true≢false (sym billed ∙ ap (λ j. reached Billed (get_or months j no_month).state) (sym same) ∙ opened), opened))
-    unbilled_trued billed (Err free) = unbilled
+    pub unbilled_trued : reached Billed (get_or months at no_month).state ≡ true → (r : Result ℕ NoRoom) (old new : Ledger) → entries_of old ≡ entries → OnOk r (entries_of new ≡ entries ++ owed TrueUp m amounts entries) → OnErr r (new ≡ old) → Unbilled months (entries_of new)
+    unbilled_trued billed (Ok count) old new is written _ =
+        rw written
+        (others TrueUp months
+        (λ k opened. (λ same. true≢false (sym billed ∙ ap (λ j. reached Billed (get_or months j no_month).state) (sym same) ∙ opened), opened)))
+    unbilled_trued billed (Err no_room) old new is _ kept = rw (kept, is) unbilled
 
 -- a month that was just started has no entries yet
 never_billed : reached Billed no_month.state ≡ false

@@ -10,6 +10,7 @@ use Rattle.store.specs.declared.state.State.TheVariants.{Billed, Final}
 use Rattle.tariff.specs.Limits.{most_demand, line_count}
 use Rattle.tariff.specs.Pricing.{Meaning, Outcome}
 use Rattle.tariff.specs.Refusals.{numbers_of}
+use Rattle.tariff.specs.declared.line.Line.TheVariants.{SystemDemand}
 use Rattle.tariff.specs.declared.refusal.Fault.{Fault}
 use Rattle.tariff.specs.declared.refusal.Refusal.{Refusal}
 use Rattle.tariff.specs.declared.refusal.Refusal.TheVariants.{BookBlank, BookOpen, OpeningOutside, NoMonthFree, DaysOutside, NoSuchMonth, MonthFinal, NoSuchPlace, OtherPoint, OutsideLimit, Missing, MonthBilled, MonthOpen, EarlierMonth, LinePastLimit, LedgerFull, MonthDue}
@@ -32,8 +33,9 @@ abbrev pub is_fault : Outcome → Bool
 is_fault (Ok cents) = false
 is_fault (Err fault) = true
 
+-- the fault of a row that holds only where there is one
 abbrev pub fault_in : Outcome → Fault
-fault_in (Ok cents) = record { line = 0; rider = 0 }
+fault_in (Ok cents) = record { line = SystemDemand; rider = 0 }
 fault_in (Err fault) = fault
 
 abbrev pub is_blank : View → Bool

@@ -1,9 +1,9 @@
 // The book of one point.
 ghost use Rattle.std.specs.Prelude.{◌≡◌, ℕ, ◌+◌, false, pos, slice_index_or};
 ghost use Rattle.ledger.specs.Entries.{line_sum};
-ghost use Rattle.ledger.specs.Ledgers.{Sound as SoundLedger, entries_of};
+ghost use Rattle.ledger.specs.Ledgers.{entries_of};
 ghost use Rattle.store.specs.Months.{no_month, reached};
-ghost use Rattle.store.specs.Stores.{Sound, months_of};
+ghost use Rattle.store.specs.Stores.{months_of};
 ghost use Rattle.store.specs.declared.state.State.TheVariants.{Billed};
 
 use crate::point::Point;
@@ -16,8 +16,6 @@ pub struct Book<'a> {
     pub(crate) point: Option<Point>,
     pub(crate) store: Store<'a>,
     pub(crate) ledger: Ledger<'a>,
-    ghost sound: { Sound store },
-    ghost within: { SoundLedger ledger },
     // a month that is not billed has no entry that counts
     ghost unbilled: { (k : ℕ) → reached Billed (slice_index_or (months_of store) k no_month).state ≡ false → (line : ℕ) → line_sum (entries_of ledger) (k + 1) line ≡ pos 0 },
 }

@@ -73,13 +73,12 @@ impl Book<'_> {
         requires { InBook month (view self.now) found.now }
         ensures { MatchResult result (λ _. (earlier_short state month (view self.now)).holds ≡ false) (λ refusal. ((earlier_short state month (view self.now)).holds ≡ true) × (refusal ≡ (earlier_short state month (view self.now)).refusal)) }
     {
-        let short = self.store.first_short(state, found.at);
-        if short < found.at {
-            return Err(Refusal::EarlierMonth {
+        match self.store.first_short(state, found.at) {
+            Some(short) => Err(Refusal::EarlierMonth {
                 month,
                 place: short as u64 + 1,
-            });
+            }),
+            None => Ok(()),
         }
-        Ok(())
     }
 }

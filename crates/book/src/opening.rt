@@ -44,7 +44,7 @@ impl<'a> Book<'a> {
         if contract < 1 || substation < contract || MOST_DEMAND < substation {
             return Err(Refusal::OpeningOutside);
         }
-        if !self.store.carry(carried) {
+        if self.store.carry(carried).is_err() {
             return Err(Refusal::OpeningOutside);
         }
         self.point = Some(Point {

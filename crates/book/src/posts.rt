@@ -1,15 +1,27 @@
 // What is posted to a month. The last post for a place stands.
+ghost use Rattle.std.specs.Prelude.{◌≡◌};
 ghost use Rattle.tariff.specs.Pricing.{Meaning};
+ghost use Rattle.tariff.specs.declared.refusal.Refusal.TheVariants.{OutsideLimit as Outside};
 ghost use Rattle.book.specs.Books.{Performs};
 ghost use Rattle.book.specs.Calls.{day as of_day, posts, price as of_price, reading as of_reading, scheduled as of_scheduled};
 
 use crate::book::Book;
-use store::Reading;
+use store::{OutsideLimit, Reading};
 use tariff::Refusal;
 
 const DAY_QUARTERS: u32 = 96;
 
 const DAY_HOURS: u32 = 24;
+
+// The refusal of a call that names the month.
+fn outside_limit(month: u32, outside: OutsideLimit) -> Refusal
+    ensures { result ≡ Outside month outside.place }
+{
+    Refusal::OutsideLimit {
+        month,
+        place: outside.place as u64,
+    }
+}
 
 impl Book<'_> {
     // The kW and kVA of a quarter, from 0.
@@ -28,10 +40,9 @@ impl Book<'_> {
                 place: quarter as u64,
             });
         }
-        if !self.store.put_reading(found.at, quarter as usize, reading) {
-            return Err(Refusal::OutsideLimit { month, place: 0 });
-        }
-        Ok(())
+        self.store
+            .put_reading(found.at, quarter as usize, reading)
+            .map_err(|outside| outside_limit(month, outside))
     }
 
     // The 96 readings of a day, from 0, with the code of the point that they are for.
@@ -54,13 +65,9 @@ impl Book<'_> {
         if !found.point.has_code(code) {
             return Err(Refusal::OtherPoint { month });
         }
-        match self.store.put_day(found.at, day as usize, readings) {
-            Some(place) => Err(Refusal::OutsideLimit {
-                month,
-                place: place as u64,
-            }),
-            None => Ok(()),
-        }
+        self.store
+            .put_day(found.at, day as usize, readings)
+            .map_err(|outside| outside_limit(month, outside))
     }
 
     // The pool price of an hour, from 0, in cents per MWh.
@@ -74,10 +81,9 @@ impl Book<'_> {
                 place: hour as u64,
             });
         }
-        if !self.store.put_price(found.at, hour as usize, price) {
-            return Err(Refusal::OutsideLimit { month, place: 0 });
-        }
-        Ok(())
+        self.store
+            .put_price(found.at, hour as usize, price)
+            .map_err(|outside| outside_limit(month, outside))
     }
 
     // The scheduled kW of an hour, from 0.
@@ -91,9 +97,8 @@ impl Book<'_> {
                 place: hour as u64,
             });
         }
-        if !self.store.put_scheduled(found.at, hour as usize, kw) {
-            return Err(Refusal::OutsideLimit { month, place: 0 });
-        }
-        Ok(())
+        self.store
+            .put_scheduled(found.at, hour as usize, kw)
+            .map_err(|outside| outside_limit(month, outside))
     }
 }

@@ -5,7 +5,5 @@ use Rattle.book.proofs.book.Book.new.Goals as goal
 pub invariant_of-result : goal.invariant_of-result
 invariant_of-result c =
     record {
-      sound = c.new.ensures.sound;
-      within = c.new-2.ensures.sound;
       unbilled = λ k _ line. rw c.new-2.ensures.empty (line_sum_none (k + 1) line);
     }

@@ -26,7 +26,7 @@ invariant_of-self c =
       | inl ok ↦ rw (c.start.ensures.months ok) (unbilled_started v.months v.ledger book.unbilled (fresh c.args.days))
       | inr err ↦ rw (c.start.ensures.refused err) book.unbilled
     ] in
-    record { sound = c.start.ensures.sound; within = book.within; unbilled = unbilled }
+    record { unbilled = unbilled }
 
 days_alike : (days : ℕ) → not (days_within days) ≡ (ltb days 28 || ltb 31 days)
 days_alike days = grind (arith, nat_tests)
