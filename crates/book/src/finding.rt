@@ -25,10 +25,7 @@ impl Book<'_> {
     pub(crate) fn opened(&self, month: u32) -> Result<Point, Refusal>
         ensures { MatchResult result (λ point. self.now.point ≡ Some point) (λ refusal. (self.now.point ≡ None) × (refusal ≡ BookBlank month)) }
     {
-        match self.point {
-            Some(point) => Ok(point),
-            None => Err(Refusal::BookBlank { month }),
-        }
+        self.point.ok_or(Refusal::BookBlank { month })
     }
 
     // The month by its number, from 1.
