@@ -5,8 +5,10 @@
 use audit::{Analyst, Answer, Request, audit};
 use ledger::{Entry, Letter};
 use rates::dts::{DTS_2007, DtsSheet};
+use std::alloc::{AllocError, Global};
+use std::vec;
 use store::{Hour, Quarter, Reading};
-use tariff::Refusal;
+use tariff::{Draft, Refusal};
 
 const CODE: [u8; 8] = *b"ALTA0001";
 
@@ -36,66 +38,62 @@ const LATE: Reading = Reading {
     kva: 22_000,
 };
 
-// Follows a fixed list: opens, starts, posts the days and the prices, bills, posts a late reading
-// and trues up.
+// Makes the calls of a list, in their order.
 #[derive(Drop)]
 struct Plan<'d> {
-    carried: &'d [u32],
-    peak_day: &'d [Reading],
-    day: &'d [Reading],
-    turn: u32,
+    requests: vec::IntoIter<Request<'d>>,
 }
 
 impl<'d> Analyst<'d> for Plan<'d> {
     ghost chooses = { λ _ _ _ _. Unit {0} };
 
     fn next(&mut self, _last: &Answer) -> Option<Request<'d>> {
-        let turn = self.turn;
-        self.turn = turn.saturating_add(1);
-        match turn {
-            0 => Some(Request::Open {
-                code: CODE,
-                contract: 20_000,
-                substation: 30_000,
-                carried: self.carried,
-            }),
-            1 => Some(Request::Start { days: DAYS }),
-            2..32 => {
-                let day = turn - 2;
-                Some(Request::PostDay {
-                    month: MONTH,
-                    day,
-                    code: CODE,
-                    readings: if day == 0 { self.peak_day } else { self.day },
-                })
-            }
-            32..752 => Some(Request::PostPrice {
-                month: MONTH,
-                hour: turn - 32,
-                price: 5_000,
-            }),
-            752 => Some(Request::Bill { month: MONTH }),
-            753 => Some(Request::PostReading {
-                month: MONTH,
-                quarter: 0,
-                reading: LATE,
-            }),
-            754 => Some(Request::TrueUp { month: MONTH }),
-            _ => None,
-        }
+        self.requests.next()
     }
+}
+
+// Opens, starts, posts the days and the prices, bills, posts a late reading and trues up.
+fn requests<'d>(
+    alloc: Global,
+    carried: &'d [u32],
+    peak_day: &'d [Reading],
+    usual_day: &'d [Reading],
+) -> Result<Vec<Request<'d>>, AllocError> {
+    let mut requests = Vec::new(alloc);
+    requests.push(Request::Open {
+        code: CODE,
+        contract: 20_000,
+        substation: 30_000,
+        carried,
+    })?;
+    requests.push(Request::Start { days: DAYS })?;
+    for day in 0..DAYS {
+        requests.push(Request::PostDay {
+            month: MONTH,
+            day,
+            code: CODE,
+            readings: if day == 0 { peak_day } else { usual_day },
+        })?;
+    }
+    for hour in 0..HOURS {
+        requests.push(Request::PostPrice {
+            month: MONTH,
+            hour,
+            price: 5_000,
+        })?;
+    }
+    requests.push(Request::Bill { month: MONTH })?;
+    requests.push(Request::PostReading {
+        month: MONTH,
+        quarter: 0,
+        reading: LATE,
+    })?;
+    requests.push(Request::TrueUp { month: MONTH })?;
+    Ok(requests)
 }
 
 fn sheet() -> Result<DtsSheet, Refusal> {
-    let sheet = DTS_2007.seal()?;
-    Ok(sheet)
-}
-
-fn letter(letter: Letter) -> char {
-    match letter {
-        Letter::Bill => 'B',
-        Letter::TrueUp => 'T',
-    }
+    Ok(DTS_2007.seal()?)
 }
 
 fn run(rt: &HostRuntime) -> anyhow::Result<()> {
@@ -112,11 +110,10 @@ fn run(rt: &HostRuntime) -> anyhow::Result<()> {
     let day = [READING; 96];
     let mut peak_day = day;
     peak_day[0] = PEAK;
+    let requests = requests(rt.alloc(), &[30_000], &peak_day, &day)?;
+    let turns = requests.len();
     let mut plan = Plan {
-        carried: &[30_000],
-        peak_day: &peak_day,
-        day: &day,
-        turn: 0,
+        requests: requests.into_iter(),
     };
     let book = audit(
         &mut quarters,
@@ -124,14 +121,10 @@ fn run(rt: &HostRuntime) -> anyhow::Result<()> {
         &mut entries,
         &sheet,
         &mut plan,
-        1_000,
+        turns,
     );
     for entry in book.ledger() {
-        let month = entry.month;
-        let letter = letter(entry.letter);
-        let line = entry.line;
-        let cents = entry.cents;
-        println!(rt; "{month} {letter} {line} {cents}")?;
+        println!(rt; "{entry}")?;
     }
     Ok(())
 }
