@@ -65,24 +65,19 @@ pub(crate) fn limits<D: Filled<N>, const N: usize>(
     least: [i64; N],
     most: [i64; N],
 ) {
-    assert_eq!(rt; refused_at(D::filled(least)), None);
-    assert_eq!(rt; refused_at(D::filled(most)), None);
-    for (i, limit) in least.iter().enumerate() {
-        let mut low = least;
-        low[i] = limit.saturating_sub(1);
+    a_step_past::<D, N>(rt, least, -1);
+    a_step_past::<D, N>(rt, most, 1);
+}
+
+fn a_step_past<D: Filled<N>, const N: usize>(rt: &impl Abort, limits: [i64; N], step: i64) {
+    assert_eq!(rt; refused_at(D::filled(limits)), None);
+    for (i, limit) in limits.iter().enumerate() {
+        let mut past = limits;
+        past[i] = limit.saturating_add(step);
         assert_eq!(rt;
-            refused_at(D::filled(low)),
+            refused_at(D::filled(past)),
             Some(i as u64 + 1),
-            "below the least"
-        );
-    }
-    for (i, limit) in most.iter().enumerate() {
-        let mut high = most;
-        high[i] = limit.saturating_add(1);
-        assert_eq!(rt;
-            refused_at(D::filled(high)),
-            Some(i as u64 + 1),
-            "above the most"
+            "a step of {step}"
         );
     }
 }
