@@ -53,22 +53,18 @@ fn facts_have_limits(rt: HostRuntime) -> Result<(), Fail> {
         apparent: 0,
         earlier: 0,
     };
-    match Facts::new(none) {
-        Ok(_) => Err(Fail::new("no contract was taken")),
-        Err(refusal) => {
-            assert_eq!(rt; refusal.numbers().number, 10);
-            Ok(())
-        },
-    }
+    let refusal = Facts::new(none).err().ok_or("no contract was taken")?;
+    assert_eq!(rt; refusal.numbers().number, 10);
+    Ok(())
 }
 
 fn hour(energy: u32, price: u32, scheduled: u32) -> bool {
-    HourList::check(&[HourRow {
+    let row = HourRow {
         energy,
         price,
         scheduled,
-    }])
-    .is_ok()
+    };
+    HourList::try_from(&[row][..]).is_ok()
 }
 
 fn taken(rows: &[HourRow]) -> usize {

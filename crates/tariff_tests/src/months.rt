@@ -1,11 +1,12 @@
 // Months priced under DTS and GTS. The amounts are worked out by hand from the rate.
 use crate::support;
+use crate::support::sealed;
 use rates::dts::{DTS_2007, DtsDraft, GTS_2007};
 use std::test::Fail;
-use tariff::{Facts, HourRow, LINES, PlainFacts, Refusal};
+use tariff::{Facts, HourRow, LINES, Line, Numbers, PlainFacts, Refusal};
 
 fn cents(draft: DtsDraft, plain: PlainFacts, rows: &[HourRow]) -> Result<[i64; LINES], Refusal> {
-    support::cents(&draft.seal()?, plain, rows)
+    support::cents(&sealed(draft)?, plain, rows)
 }
 
 fn month(peak: u32, apparent: u32) -> PlainFacts {
@@ -38,8 +39,14 @@ fn gts_has_its_own_delivery(rt: HostRuntime) -> Result<(), Fail> {
 
 #[test]
 fn power_factor_counts_below_nine_tenths(rt: HostRuntime) -> Result<(), Fail> {
-    assert_eq!(rt; cents(DTS_2007, month(9_000, 10_000), &[])?[7], 0);
-    assert_eq!(rt; cents(DTS_2007, month(9_000, 10_001), &[])?[7], 440);
+    assert_eq!(rt;
+        cents(DTS_2007, month(9_000, 10_000), &[])?[Line::PowerFactor.place()],
+        0
+    );
+    assert_eq!(rt;
+        cents(DTS_2007, month(9_000, 10_001), &[])?[Line::PowerFactor.place()],
+        440
+    );
     Ok(())
 }
 
@@ -53,18 +60,13 @@ fn the_highest_of_three_is_billed(rt: HostRuntime) -> Result<(), Fail> {
         earlier: 11,
     };
     let earlier = PlainFacts {
-        contract: 1,
-        substation: 1,
-        peak: 10,
-        apparent: 10,
         earlier: 12,
+        ..peak
     };
     let contract = PlainFacts {
         contract: 13,
         substation: 13,
-        peak: 10,
-        apparent: 10,
-        earlier: 12,
+        ..earlier
     };
     assert_eq!(rt; Facts::new(peak)?.billing_capacity(), 100);
     assert_eq!(rt; Facts::new(earlier)?.billing_capacity(), 108);
@@ -80,16 +82,17 @@ fn a_month_has_744_hours_at_most(rt: HostRuntime) -> Result<(), Fail> {
         scheduled: 0,
     };
     let full = cents(DTS_2007, month(1_000_000, 1_000_000), &[most; 744])?;
-    assert_eq!(rt; full[4], 2_782_532_174);
-    match cents(DTS_2007, month(0, 0), &[HOUR; 745]) {
-        Ok(_) => Err(Fail::new("745 hours were priced")),
-        Err(refusal) => {
-            let numbers = refusal.numbers();
-            assert_eq!(rt;
-                (numbers.number, numbers.month, numbers.place, numbers.rider),
-                (8, 0, 745, 0)
-            );
-            Ok(())
+    assert_eq!(rt; full[Line::OperatingReserve.place()], 2_782_532_174);
+    let priced = cents(DTS_2007, month(0, 0), &[HOUR; 745]);
+    let refusal = priced.err().ok_or("745 hours were priced")?;
+    assert_eq!(rt;
+        refusal.numbers(),
+        Numbers {
+            number: 8,
+            month: 0,
+            place: 745,
+            rider: 0
         }
-    }
+    );
+    Ok(())
 }

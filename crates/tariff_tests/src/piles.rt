@@ -1,12 +1,13 @@
 // Riders piled over rates.
 use crate::support;
-use rates::dts::{DTS_2007, DtsDraft, DtsSheet};
+use crate::support::{Filled, limits, refused_at, sealed};
+use rates::dts::{DTS_2007, DtsDraft};
 use riders::Rider;
-use riders::credit::{CreditDraft, CreditSheet};
-use riders::energy::{EnergyDraft, EnergySheet};
-use riders::percent::{PercentDraft, PercentSheet};
+use riders::credit::CreditDraft;
+use riders::energy::EnergyDraft;
+use riders::percent::PercentDraft;
 use std::test::Fail;
-use tariff::{HourRow, LINES, PlainFacts, Refusal, Schedule};
+use tariff::{HourRow, LINES, Line, Numbers, PlainFacts, Refusal, Schedule};
 
 // A sheet that charges nothing.
 const NOTHING: DtsDraft = DtsDraft {
@@ -41,31 +42,38 @@ fn cents<S: Schedule>(
     support::cents(schedule, plain, rows)
 }
 
-fn nothing() -> Result<DtsSheet, Refusal> {
-    Ok(NOTHING.seal()?)
+fn energy(number: i64, rate: i64) -> EnergyDraft {
+    EnergyDraft { number, rate }
 }
 
-fn published() -> Result<DtsSheet, Refusal> {
-    Ok(DTS_2007.seal()?)
+fn percent(number: i64, factor: i64) -> PercentDraft {
+    PercentDraft { number, factor }
 }
 
-fn credit() -> Result<CreditSheet, Refusal> {
-    Ok(CreditDraft::published_2009(1).seal()?)
-}
-
-fn energy(number: i64, rate: i64) -> Result<EnergySheet, Refusal> {
-    Ok(EnergyDraft { number, rate }.seal()?)
-}
-
-fn percent(number: i64, factor: i64) -> Result<PercentSheet, Refusal> {
-    Ok(PercentDraft { number, factor }.seal()?)
+impl Filled<6> for CreditDraft {
+    fn filled([number, first, second, third, last, fixed]: [i64; 6]) -> CreditDraft {
+        CreditDraft {
+            number,
+            first,
+            second,
+            third,
+            last,
+            fixed,
+        }
+    }
 }
 
 #[test]
 fn credit_by_bands(rt: HostRuntime) -> Result<(), Fail> {
-    let credited = Rider::over(credit()?, nothing()?);
-    assert_eq!(rt; cents(&credited, 20_000, &[])?[12], -3_305_650);
-    assert_eq!(rt; cents(&credited, 40_000, &[])?[12], -2_298_325);
+    let credited = Rider::over(sealed(CreditDraft::published_2009(1))?, sealed(NOTHING)?);
+    assert_eq!(rt;
+        cents(&credited, 20_000, &[])?[Line::PrimaryServiceCredit.place()],
+        -3_305_650
+    );
+    assert_eq!(rt;
+        cents(&credited, 40_000, &[])?[Line::PrimaryServiceCredit.place()],
+        -2_298_325
+    );
     Ok(())
 }
 
@@ -76,10 +84,16 @@ fn a_percent_of_all_lines_beneath(rt: HostRuntime) -> Result<(), Fail> {
         price: 0,
         scheduled: 0,
     };
-    let pile = Rider::over(percent(2, 100)?, Rider::over(energy(1, -50)?, nothing()?));
-    assert_eq!(rt; cents(&pile, 30_000, &[small])?[13], -51);
-    let turned = Rider::over(percent(2, -10_000)?, published()?);
-    assert_eq!(rt; cents(&turned, 30_000, &[FULL])?[13], -8_779_333);
+    let pile = Rider::over(
+        sealed(percent(2, 100))?,
+        Rider::over(sealed(energy(1, -50))?, sealed(NOTHING)?),
+    );
+    assert_eq!(rt; cents(&pile, 30_000, &[small])?[Line::Riders.place()], -51);
+    let turned = Rider::over(sealed(percent(2, -10_000))?, sealed(DTS_2007)?);
+    assert_eq!(rt;
+        cents(&turned, 30_000, &[FULL])?[Line::Riders.place()],
+        -8_779_333
+    );
     Ok(())
 }
 
@@ -87,74 +101,49 @@ fn a_percent_of_all_lines_beneath(rt: HostRuntime) -> Result<(), Fail> {
 #[test]
 fn the_third_passes_the_limit(rt: HostRuntime) -> Result<(), Fail> {
     let two = Rider::over(
-        energy(8, 100_000)?,
-        Rider::over(energy(7, 100_000)?, nothing()?),
+        sealed(energy(8, 100_000))?,
+        Rider::over(sealed(energy(7, 100_000))?, sealed(NOTHING)?),
     );
-    assert_eq!(rt; cents(&two, 30_000, &[FULL; 744])?[13], 148_800_000_000);
+    assert_eq!(rt;
+        cents(&two, 30_000, &[FULL; 744])?[Line::Riders.place()],
+        148_800_000_000
+    );
     let three = Rider::over(
-        energy(9, 100_000)?,
+        sealed(energy(9, 100_000))?,
         Rider::over(
-            energy(8, 100_000)?,
-            Rider::over(energy(7, 100_000)?, nothing()?),
+            sealed(energy(8, 100_000))?,
+            Rider::over(sealed(energy(7, 100_000))?, sealed(NOTHING)?),
         ),
     );
     // a fault comes up unchanged through what lies above
-    let four = Rider::over(percent(10, 1)?, three);
-    match cents(&four, 30_000, &[FULL; 744]) {
-        Ok(_) => Err(Fail::new("a line past the limit was priced")),
-        Err(refusal) => {
-            let numbers = refusal.numbers();
-            assert_eq!(rt;
-                (numbers.number, numbers.month, numbers.place, numbers.rider),
-                (15, 0, 14, 9)
-            );
-            Ok(())
+    let four = Rider::over(sealed(percent(10, 1))?, three);
+    let priced = cents(&four, 30_000, &[FULL; 744]);
+    let refusal = priced.err().ok_or("a line past the limit was priced")?;
+    assert_eq!(rt;
+        refusal.numbers(),
+        Numbers {
+            number: 15,
+            month: 0,
+            place: 14,
+            rider: 9
         }
-    }
-}
-
-fn energy_place(number: i64, rate: i64) -> u64 {
-    match (EnergyDraft { number, rate }).seal() {
-        Ok(_) => 0,
-        Err(unsealed) => unsealed.refusal.numbers().place,
-    }
-}
-
-fn percent_place(number: i64, factor: i64) -> u64 {
-    match (PercentDraft { number, factor }).seal() {
-        Ok(_) => 0,
-        Err(unsealed) => unsealed.refusal.numbers().place,
-    }
-}
-
-fn credit_place(f: [i64; 6]) -> u64 {
-    let draft = CreditDraft {
-        number: f[0],
-        first: f[1],
-        second: f[2],
-        third: f[3],
-        last: f[4],
-        fixed: f[5],
-    };
-    match draft.seal() {
-        Ok(_) => 0,
-        Err(unsealed) => unsealed.refusal.numbers().place,
-    }
+    );
+    Ok(())
 }
 
 #[test]
 fn rider_figures_have_limits(rt: HostRuntime) {
-    assert_eq!(rt; energy_place(1, -100_000), 0);
-    assert_eq!(rt; energy_place(65_535, 100_000), 0);
-    assert_eq!(rt; energy_place(0, 0), 1);
-    assert_eq!(rt; energy_place(65_536, 0), 1);
-    assert_eq!(rt; energy_place(1, -100_001), 2);
-    assert_eq!(rt; energy_place(1, 100_001), 2);
-    assert_eq!(rt; percent_place(1, -10_000), 0);
-    assert_eq!(rt; percent_place(65_535, 10_000), 0);
-    assert_eq!(rt; percent_place(0, 10_001), 1);
-    assert_eq!(rt; percent_place(1, -10_001), 2);
-    assert_eq!(rt; percent_place(1, 10_001), 2);
+    assert_eq!(rt; refused_at(energy(1, -100_000)), None);
+    assert_eq!(rt; refused_at(energy(65_535, 100_000)), None);
+    assert_eq!(rt; refused_at(energy(0, 0)), Some(1));
+    assert_eq!(rt; refused_at(energy(65_536, 0)), Some(1));
+    assert_eq!(rt; refused_at(energy(1, -100_001)), Some(2));
+    assert_eq!(rt; refused_at(energy(1, 100_001)), Some(2));
+    assert_eq!(rt; refused_at(percent(1, -10_000)), None);
+    assert_eq!(rt; refused_at(percent(65_535, 10_000)), None);
+    assert_eq!(rt; refused_at(percent(0, 10_001)), Some(1));
+    assert_eq!(rt; refused_at(percent(1, -10_001)), Some(2));
+    assert_eq!(rt; refused_at(percent(1, 10_001)), Some(2));
 }
 
 const LEAST: [i64; 6] = [1, 0, 0, 0, 0, 0];
@@ -163,14 +152,5 @@ const MOST: [i64; 6] = [65_535, 500_000, 500_000, 500_000, 500_000, 10_000_000];
 
 #[test]
 fn credit_figures_have_limits(rt: HostRuntime) {
-    assert_eq!(rt; credit_place(LEAST), 0);
-    assert_eq!(rt; credit_place(MOST), 0);
-    for i in 0..6 {
-        let mut low = LEAST;
-        low[i] = LEAST[i].saturating_sub(1);
-        assert_eq!(rt; credit_place(low), i as u64 + 1);
-        let mut high = MOST;
-        high[i] = MOST[i].saturating_add(1);
-        assert_eq!(rt; credit_place(high), i as u64 + 1);
-    }
+    limits::<CreditDraft, 6>(&rt, LEAST, MOST);
 }
