@@ -8,7 +8,7 @@ use riders::Rider;
 use riders::energy::EnergySheet;
 use std::process::Abort;
 use store::Reading;
-use tariff::{Refusal, Schedule};
+use tariff::{Numbers, Refusal, Schedule};
 
 // What a month is priced by.
 #[derive(Clone, Copy)]
@@ -25,6 +25,15 @@ pub(crate) enum By {
     Faulty,
 }
 
+// A call that prices a month.
+#[derive(Clone, Copy)]
+pub(crate) enum Ask {
+    Bill,
+    TrueUp,
+    Finalise,
+    Due,
+}
+
 #[derive(Clone, Copy)]
 pub(crate) enum Call {
     // with a contract and a substation total, and a peak of 30,000 kW carried
@@ -36,14 +45,11 @@ pub(crate) enum Call {
     Fill(u32, u8, u32, u32),
     // a month, a quarter, its kW and kVA
     Reading(u32, u32, u32, u32),
-    // a month, a day, a code, how many readings, and which of them has a kVA below its kW
-    Day(u32, u32, [u8; 8], usize, usize),
+    // a month, a day, a code, how many readings, and which of them has a kVA below its kW, if any
+    Day(u32, u32, [u8; 8], usize, Option<usize>),
     Price(u32, u32, u32),
     Scheduled(u32, u32, u32),
-    Bill(u32, By),
-    TrueUp(u32, By),
-    Finalise(u32, By),
-    Due(u32, By),
+    Priced(Ask, u32, By),
     Total(u32, u32),
     // how many entries the ledger has
     Entries,
@@ -55,49 +61,54 @@ fn post_day(
     day: u32,
     code: [u8; 8],
     count: usize,
-    spoilt: usize,
+    spoilt: Option<usize>,
 ) -> Result<i64, Refusal> {
     let mut readings = [USUAL; 97];
-    if spoilt < 97 {
-        readings[spoilt] = Reading { kw: 2, kva: 1 };
+    if let Some(at) = spoilt
+        && at < readings.len()
+    {
+        readings[at] = Reading { kw: 2, kva: 1 };
     }
     book.post_day(month, day, code, &readings[..count.min(97)])?;
     Ok(0)
 }
 
-// A bill, true-up, finalise or due.
-fn ask_by<S: Schedule>(book: &mut Book<'_>, call: Call, schedule: &S) -> Result<i64, Refusal> {
-    match call {
-        Call::Bill(month, _) => Ok(book.bill(month, schedule)?.min(99) as i64),
-        Call::TrueUp(month, _) => Ok(book.true_up(month, schedule)?.min(99) as i64),
-        Call::Finalise(month, _) => {
+fn ask_by<S: Schedule>(
+    book: &mut Book<'_>,
+    ask: Ask,
+    month: u32,
+    schedule: &S,
+) -> Result<i64, Refusal> {
+    match ask {
+        Ask::Bill => Ok(book.bill(month, schedule)?.min(99) as i64),
+        Ask::TrueUp => Ok(book.true_up(month, schedule)?.min(99) as i64),
+        Ask::Finalise => {
             book.finalise(month, schedule)?;
             Ok(0)
         }
-        Call::Due(month, _) => Ok(i64::from(book.due(month, schedule)?)),
-        _ => Ok(-1),
+        Ask::Due => Ok(i64::from(book.due(month, schedule)?)),
     }
 }
 
-fn ask_priced(book: &mut Book<'_>, call: Call, by: By) -> Result<i64, Refusal> {
+fn ask_priced(book: &mut Book<'_>, ask: Ask, month: u32, by: By) -> Result<i64, Refusal> {
     match by {
-        By::Dts => ask_by(book, call, &dts()?),
-        By::Gts => ask_by(book, call, &gts()?),
-        By::Capacity => ask_by(book, call, &capacity()?),
+        By::Dts => ask_by(book, ask, month, &dts()?),
+        By::Gts => ask_by(book, ask, month, &gts()?),
+        By::Capacity => ask_by(book, ask, month, &capacity()?),
         By::TwoRiders => {
             let two = Rider::over(energy(8)?, Rider::over(energy(7)?, dts()?));
-            ask_by(book, call, &two)
+            ask_by(book, ask, month, &two)
         }
         By::ThreeRiders => {
             let two = Rider::over(energy(8)?, Rider::over(energy(7)?, dts()?));
-            ask_by(book, call, &Rider::over(energy(9)?, two))
+            ask_by(book, ask, month, &Rider::over(energy(9)?, two))
         }
-        By::Faulty => ask_by(book, call, &Faulty),
+        By::Faulty => ask_by(book, ask, month, &Faulty),
     }
 }
 
 // What a call answers: the month started, the entries written, 1 for a yes, the cents, else 0.
-fn ask(book: &mut Book<'_>, call: Call) -> Result<i64, Refusal> {
+fn make(book: &mut Book<'_>, call: Call) -> Result<i64, Refusal> {
     match call {
         Call::Open(contract, substation) => book.open(CODE, contract, substation, &[30_000])?,
         Call::Start(days) => return Ok(i64::from(book.start(days)?)),
@@ -113,29 +124,27 @@ fn ask(book: &mut Book<'_>, call: Call) -> Result<i64, Refusal> {
         }
         Call::Price(month, hour, price) => book.post_price(month, hour, price)?,
         Call::Scheduled(month, hour, kw) => book.post_schedule(month, hour, kw)?,
-        Call::Bill(_, by) | Call::TrueUp(_, by) | Call::Finalise(_, by) | Call::Due(_, by) => {
-            return ask_priced(book, call, by);
-        }
+        Call::Priced(ask, month, by) => return ask_priced(book, ask, month, by),
         Call::Total(month, line) => return book.total(month, line),
         Call::Entries => return Ok(book.ledger().len().min(999) as i64),
     }
     Ok(0)
 }
 
+// A refusal by its four numbers.
+pub(crate) fn refused(number: u8, month: u32, place: u64, rider: u16) -> Result<i64, Numbers> {
+    Err(Numbers {
+        number,
+        month,
+        place,
+        rider,
+    })
+}
+
 // Makes the calls in their order. Each has to answer a number, or a refusal of four numbers.
-pub(crate) fn run(
-    rt: &impl Abort,
-    book: &mut Book<'_>,
-    calls: &[(Call, Result<i64, (u8, u32, u64, u16)>)],
-) {
+pub(crate) fn run(rt: &impl Abort, book: &mut Book<'_>, calls: &[(Call, Result<i64, Numbers>)]) {
     for (i, (call, answer)) in calls.iter().enumerate() {
-        let answered = match ask(book, *call) {
-            Ok(number) => Ok(number),
-            Err(refusal) => {
-                let numbers = refusal.numbers();
-                Err((numbers.number, numbers.month, numbers.place, numbers.rider))
-            }
-        };
+        let answered = make(book, *call).map_err(|refusal| refusal.numbers());
         // the place in the table says which call it was
         assert_eq!(rt; (i, answered), (i, *answer));
     }

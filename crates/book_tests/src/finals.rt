@@ -1,5 +1,5 @@
 // Months that are made final.
-use crate::calls::{By, Call, run};
+use crate::calls::{Ask, By, Call, refused, run};
 use crate::support::{CODE, LINES_BILLED, Memory, totals};
 use book::Book;
 use std::test::Fail;
@@ -16,16 +16,16 @@ fn a_month_is_billed_and_made_final(rt: HostRuntime) -> Result<(), Fail> {
         &[
             (Call::Open(20_000, 30_000), Ok(0)),
             (Call::Full, Ok(1)),
-            (Call::Bill(1, By::Dts), Ok(14)),
-            (Call::Finalise(1, By::Dts), Ok(0)),
-            (Call::Reading(1, 0, 25_000, 30_000), Err((7, 1, 0, 0))),
-            (Call::Day(1, 0, CODE, 96, 99), Err((7, 1, 0, 0))),
-            (Call::Price(1, 0, 5_000), Err((7, 1, 0, 0))),
-            (Call::Scheduled(1, 0, 0), Err((7, 1, 0, 0))),
-            (Call::Bill(1, By::Dts), Err((12, 1, 0, 0))),
-            (Call::TrueUp(1, By::Dts), Err((7, 1, 0, 0))),
-            (Call::Finalise(1, By::Dts), Err((7, 1, 0, 0))),
-            (Call::Due(1, By::Dts), Ok(0)),
+            (Call::Priced(Ask::Bill, 1, By::Dts), Ok(14)),
+            (Call::Priced(Ask::Finalise, 1, By::Dts), Ok(0)),
+            (Call::Reading(1, 0, 25_000, 30_000), refused(7, 1, 0, 0)),
+            (Call::Day(1, 0, CODE, 96, None), refused(7, 1, 0, 0)),
+            (Call::Price(1, 0, 5_000), refused(7, 1, 0, 0)),
+            (Call::Scheduled(1, 0, 0), refused(7, 1, 0, 0)),
+            (Call::Priced(Ask::Bill, 1, By::Dts), refused(12, 1, 0, 0)),
+            (Call::Priced(Ask::TrueUp, 1, By::Dts), refused(7, 1, 0, 0)),
+            (Call::Priced(Ask::Finalise, 1, By::Dts), refused(7, 1, 0, 0)),
+            (Call::Priced(Ask::Due, 1, By::Dts), Ok(0)),
             (Call::Entries, Ok(14)),
         ],
     );

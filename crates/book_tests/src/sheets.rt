@@ -1,7 +1,7 @@
 // The sheets of the tests.
 use rates::dts::{DTS_2007, DtsDraft, DtsSheet, GTS_2007};
 use riders::energy::{EnergyDraft, EnergySheet};
-use tariff::Refusal;
+use tariff::{Draft, Refusal};
 
 pub(crate) fn dts() -> Result<DtsSheet, Refusal> {
     Ok(DTS_2007.seal()?)

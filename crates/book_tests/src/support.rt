@@ -2,7 +2,7 @@
 use book::Book;
 use ledger::{Entry, Letter};
 use store::{Hour, Quarter, Reading};
-use tariff::{LINES, Refusal};
+use tariff::{LINES, Line, Refusal};
 
 // The code of the point, and another.
 pub(crate) const CODE: [u8; 8] = [80, 79, 73, 78, 84, 48, 48, 49];
@@ -83,8 +83,8 @@ pub(crate) fn start_full(book: &mut Book<'_>) -> Result<u32, Refusal> {
 // What the entries of each line of a month add up to.
 pub(crate) fn totals(book: &Book<'_>, month: u32) -> Result<[i64; LINES], Refusal> {
     let mut cents = [0; LINES];
-    for i in 0..LINES {
-        cents[i] = book.total(month, i as u32 + 1)?;
+    for line in Line::ALL.iter() {
+        cents[line.place()] = book.total(month, line.number().into())?;
     }
     Ok(cents)
 }
@@ -93,10 +93,8 @@ pub(crate) fn totals(book: &Book<'_>, month: u32) -> Result<[i64; LINES], Refusa
 pub(crate) fn written(book: &Book<'_>) -> (usize, [Entry; 64]) {
     let entries = book.ledger();
     let mut first = [UNWRITTEN; 64];
-    for i in 0..64 {
-        if i < entries.len() {
-            first[i] = entries[i];
-        }
+    for (place, entry) in first.iter_mut().zip(entries) {
+        *place = *entry;
     }
     (entries.len(), first)
 }

@@ -64,7 +64,7 @@ fn hour(energy: u32, price: u32, scheduled: u32) -> bool {
         price,
         scheduled,
     };
-    HourList::try_from(&[row][..]).is_ok()
+    HourList::check(&[row]).is_ok()
 }
 
 fn taken(rows: &[HourRow]) -> usize {
