@@ -37,24 +37,24 @@ returns-then-day-days c =
     let many = length-map readings Some in
     let written = c.post.ensures.quarters in
     let same = get_or_default store.records (24 + k) c.index-self-k.result first_record (omega arith) in
-    let days = ap (λ m. m.days) same in
-    record {
-      result = c.in_ok-check.ensures;
-      months = months_with_readings store k (96 * c.args.day) (map Some readings) (omega (arith, many, good.0)) c.post.new.self.quarters.now written _ _ readings started.0 refl (omega (arith, many, good.0, started.1)) days (ap (λ m. m.state) same) refl refl refl c.post.ensures.hours;
-      refused = tt;
-      before = before_kept store _ k _ (omega (arith, started.0, c.args.self.now.few)) refl;
-      capacity = rw (c.post.ensures.size, c.post.ensures.hours) refl;
-    }
+    let days = ap (λ m. m.days) same in (
+      c.in_ok-check.ensures,
+      record {
+        months = months_with_readings store k (96 * c.args.day) (map Some readings) (omega (arith, many, good.0)) c.post.new.self.quarters.now written _ _ readings started.0 refl (omega (arith, many, good.0, started.1)) days (ap (λ m. m.state) same) refl refl refl c.post.ensures.hours;
+        before = before_kept store _ k _ (omega (arith, started.0, c.args.self.now.few)) refl;
+        capacity = rw (c.post.ensures.size, c.post.ensures.hours) refl;
+      },
+    )
 
 pub returns-else-day-days : goal.returns-else-day-days
-returns-else-day-days c =
-    record {
-      result = c.in_ok-check.ensures;
-      months = sym (readings_past c.args.self.now c.args.k (96 * c.args.day) c.args.readings.now (omega arith));
-      refused = tt;
-      before = refl;
-      capacity = refl;
-    }
+returns-else-day-days c = (
+  c.in_ok-check.ensures,
+  record {
+    months = sym (readings_past c.args.self.now c.args.k (96 * c.args.day) c.args.readings.now (omega arith));
+    before = refl;
+    capacity = refl;
+  },
+)
 
 pub invariant_of-self-then-day-days : goal.invariant_of-self-then-day-days
 invariant_of-self-then-day-days c =

@@ -57,21 +57,21 @@ returns-after-reading-peak c =
     let started = c.days_of-days.ensures.there (omega arith) in
     let below : at < 96 * (record_at store k).days = omega (arith, started.1) in
     let few = (record_at store k).length.1 in
-    let same = get_or_default store.records (24 + k) c.index-self-k-then-quarter-days.result first_record (omega arith) in
-    record {
-      result = c.in_ok-posted.ensures.0;
-      months = months_with_readings store k at (Some c.args.reading ∷ []) (omega arith) _ (written store k at posted c.args.reading c.in_ok-posted.ensures.1) _ _ (c.args.reading ∷ []) started.0 refl (omega arith) (ap (λ m. m.days) same) (ap (λ m. m.state) same) refl refl refl refl;
-      refused = tt;
-      before = before_kept store _ k _ (omega arith) refl;
-      capacity = simp length-set;
-    }
+    let same = get_or_default store.records (24 + k) c.index-self-k-then-quarter-days.result first_record (omega arith) in (
+      c.in_ok-posted.ensures.0,
+      record {
+        months = months_with_readings store k at (Some c.args.reading ∷ []) (omega arith) _ (written store k at posted c.args.reading c.in_ok-posted.ensures.1) _ _ (c.args.reading ∷ []) started.0 refl (omega arith) (ap (λ m. m.days) same) (ap (λ m. m.state) same) refl refl refl refl;
+        before = before_kept store _ k _ (omega arith) refl;
+        capacity = simp length-set;
+      },
+    )
 
 pub returns-else-quarter-days : goal.returns-else-quarter-days
-returns-else-quarter-days c =
-    record {
-      result = c.in_ok-posted.ensures.0;
-      months = sym (readings_past c.args.self.now c.args.k c.args.quarter (c.args.reading ∷ []) (omega arith));
-      refused = tt;
-      before = refl;
-      capacity = refl;
-    }
+returns-else-quarter-days c = (
+  c.in_ok-posted.ensures.0,
+  record {
+    months = sym (readings_past c.args.self.now c.args.k c.args.quarter (c.args.reading ∷ []) (omega arith));
+    before = refl;
+    capacity = refl;
+  },
+)

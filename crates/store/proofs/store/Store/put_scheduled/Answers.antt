@@ -12,21 +12,21 @@ returns-then-hour-days_of c =
     let store = c.args.self.now in
     let within = le-leb c.args.kw 1000000 (omega arith) in
     let started = c.days_of.ensures.there (omega arith) in
-    let below : c.args.hour < 24 * (record_at store c.args.k).days = omega (arith, started.1) in
-    record {
-      result = within;
-      months = months_with_scheduled store _ c.args.k c.args.hour started.0 below c.args.kw _ c.index-self-k.result refl refl refl refl refl refl;
-      refused = tt;
-      before = refl;
-      capacity = simp length-set;
-    }
+    let below : c.args.hour < 24 * (record_at store c.args.k).days = omega (arith, started.1) in (
+      within,
+      record {
+        months = months_with_scheduled store _ c.args.k c.args.hour started.0 below c.args.kw _ c.index-self-k.result refl refl refl refl refl refl;
+        before = refl;
+        capacity = simp length-set;
+      },
+    )
 
 pub returns-else-hour-days_of : goal.returns-else-hour-days_of
-returns-else-hour-days_of c =
-    record {
-      result = le-leb c.args.kw 1000000 (omega arith);
-      months = sym (hour_past c.args.self.now c.args.k c.args.hour (with_scheduled c.args.hour c.args.kw) _ (omega arith) refl);
-      refused = tt;
-      before = refl;
-      capacity = refl;
-    }
+returns-else-hour-days_of c = (
+  le-leb c.args.kw 1000000 (omega arith),
+  record {
+    months = sym (hour_past c.args.self.now c.args.k c.args.hour (with_scheduled c.args.hour c.args.kw) _ (omega arith) refl);
+    before = refl;
+    capacity = refl;
+  },
+)
