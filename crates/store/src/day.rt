@@ -1,5 +1,5 @@
 // A day's readings.
-ghost use Rattle.std.specs.Prelude.{◌≡◌, map, length, None, Some, MatchResult};
+ghost use Rattle.std.specs.Prelude.{◌≡◌, map, length, None, Some, MatchResult, OnOk};
 ghost use Rattle.std.specs.List.{prefix_len};
 ghost use Rattle.store.specs.Months.{day_fault, reading_within};
 ghost use Rattle.store.specs.Records.{reading_of};
@@ -11,7 +11,8 @@ use crate::store::DAY_QUARTERS;
 
 // Refused where there are not 96 readings, or one is outside its limits.
 pub(crate) fn check(readings: &[Reading]) -> Result<(), OutsideLimit>
-    ensures { MatchResult result (λ _. day_fault readings.now ≡ None) (λ outside. day_fault readings.now ≡ Some outside.place) }
+    ensures fault { MatchResult result (λ _. day_fault readings.now ≡ None) (λ outside. day_fault readings.now ≡ Some outside.place) }
+    ensures good { OnOk result ((length readings.now ≡ 96) × (prefix_len reading_within readings.now ≡ length readings.now)) }
 {
     if readings.len() != DAY_QUARTERS {
         return Err(OutsideLimit {

@@ -15,8 +15,8 @@ written : (s : Store) (k at : ℕ) (posted : Quarter) (reading : Reading) → re
 written s k at posted reading on_file =
     map-set reading_of s.memory.quarters.now (2976 * k + at) posted ∙ ap (set (readings_in s) (2976 * k + at)) on_file
 
-pub invariant_of-self-after-reading-peak : goal.invariant_of-self-after-reading-peak
-invariant_of-self-after-reading-peak c =
+pub invariant_of-self-after-reading-peak-clause-peaks : goal.invariant_of-self-after-reading-peak-clause-peaks
+invariant_of-self-after-reading-peak-clause-peaks c =
     let store = c.args.self.now in
     let k = c.args.k in
     let at = c.args.quarter in
@@ -39,13 +39,7 @@ invariant_of-self-after-reading-peak c =
       | else-reading-peak+else-kw-peak w ↦ w.peak-is ∙ w.peak.ensures.counted ∙ ap (peak_in quarters k) started.1
     ] in
     let same_days = ap (λ m. m.days) (get_or_default store.records (24 + k) c.index-self-k-then-quarter-days.result first_record (omega arith)) in
-    record {
-      recorded = rw length-set store.recorded;
-      few = store.few;
-      quartered = rw length-set store.quartered;
-      houred = store.houred;
-      peaks = peaks_kept store k at (Some c.args.reading ∷ []) (omega arith) quarters (written store k at posted c.args.reading on_file) _ (omega arith) (rw same_days own) store.started (λ j h other. h);
-    }
+    peaks_kept store k at (Some c.args.reading ∷ []) (omega arith) quarters (written store k at posted c.args.reading on_file) _ (omega arith) (rw same_days own) store.started (λ j h other. h)
 
 pub returns-after-reading-peak : goal.returns-after-reading-peak
 unfolding capacity_of
@@ -75,3 +69,7 @@ returns-else-quarter-days c = (
     capacity = refl;
   },
 )
+
+pub invariant_of-self-after-reading-peak-clause-quartered : goal.invariant_of-self-after-reading-peak-clause-quartered
+invariant_of-self-after-reading-peak-clause-quartered c =
+    rw (length-set c.args.self.now.memory.quarters.now (2976 * c.args.k + c.args.quarter) c.in_ok-posted.posted) c.args.self.now.quartered
