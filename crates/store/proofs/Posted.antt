@@ -7,7 +7,7 @@ use Rattle.std.proofs.lemmas.List.{get_or-map, get_or_past, get_or-set_other, ge
 use Rattle.std.proofs.lemmas.Bool.{cases_eq, cases_lt, cond-true}
 use Rattle.store.specs.Months.{HourOnFile, Month, altered, fresh, hours_of, kw_of, no_month, price_within, quarters_of, ratchet, top, with_price, with_readings, with_scheduled, with_state}
 use Rattle.store.specs.Records.{first_record, hour_of, peak_in, reading_of, record_in, stretch}
-use Rattle.store.specs.Stores.{before_of, month_of, months_of}
+use Rattle.store.specs.Stores.{Alters, before_of, month_of, months_of}
 use Rattle.store.specs.declared.month.MonthRecord.{MonthRecord}
 use Rattle.store.specs.declared.quarter.Hour.{Hour}
 use Rattle.store.specs.declared.quarter.Quarter.{Quarter}
@@ -55,7 +55,14 @@ pub no_days : no_month.days ≡ 0
 unfolding no_month fresh
 no_days = refl
 
--- places past a month's last quarter and hour
+-- nothing is written past the last month, and past a month's last quarter and hour
+unaltered : (s : Store) (k : ℕ) (alter : Month → Month) → altered k alter (months_of s) ≡ months_of s → Alters k alter s s
+unaltered s k alter same = record { months = sym same; before = refl; capacity = refl }
+
+pub month_past : (s : Store) (k : ℕ) (alter : Month → Month) → s.started ≤ k → Alters k alter s s
+month_past s k alter past =
+    unaltered s k alter (set_past (months_of s) k (alter (get_or (months_of s) k no_month)) (omega (arith, length_months s)))
+
 months_length : (s : Store) (k : ℕ) → (length (get_or (months_of s) k no_month).readings ≡ quarters_of (get_or (months_of s) k no_month).days) × (length (get_or (months_of s) k no_month).hours ≡ hours_of (get_or (months_of s) k no_month).days)
 unfolding no_month fresh
 months_length s k =
@@ -69,15 +76,15 @@ months_length s k =
       | inr past ↦ rw (get_or_past (months_of s) k no_month (omega (arith, length_months s))) (refl, refl)
     ]
 
-pub hour_past : (s : Store) (k at : ℕ) (alter : Month → Month) (v : HourOnFile) → let month = get_or (months_of s) k no_month in hours_of month.days ≤ at → alter month ≡ record { days = month.days; state = month.state; readings = month.readings; hours = set month.hours at v } → altered k alter (months_of s) ≡ months_of s
+pub hour_past : (s : Store) (k at : ℕ) (alter : Month → Month) (v : HourOnFile) → let month = get_or (months_of s) k no_month in hours_of month.days ≤ at → alter month ≡ record { days = month.days; state = month.state; readings = month.readings; hours = set month.hours at v } → Alters k alter s s
 hour_past s k at alter v past is =
     let same = set_past (get_or (months_of s) k no_month).hours at v (omega (arith, (months_length s k).1)) in
-    altered_alike (months_of s) k alter (is ∙ rw same refl)
+    unaltered s k alter (altered_alike (months_of s) k alter (is ∙ rw same refl))
 
-pub readings_past : (s : Store) (k at : ℕ) (readings : List Reading) → quarters_of (get_or (months_of s) k no_month).days ≤ at → altered k (with_readings at readings) (months_of s) ≡ months_of s
+pub readings_past : (s : Store) (k at : ℕ) (readings : List Reading) → quarters_of (get_or (months_of s) k no_month).days ≤ at → Alters k (with_readings at readings) s s
 readings_past s k at readings past =
     let same = sets_past (get_or (months_of s) k no_month).readings at (map Some readings) (omega (arith, (months_length s k).0)) in
-    altered_alike (months_of s) k (with_readings at readings) (rw same refl)
+    unaltered s k (with_readings at readings) (altered_alike (months_of s) k (with_readings at readings) (rw same refl))
 
 -- one hour written
 module _ (s t : Store) (k at : ℕ) (there : k < s.started) (below : at < hours_of (record_at s k).days) where

@@ -127,9 +127,6 @@ months_altered s t k alter started there own others =
 pub altered_alike : (months : List Month) (k : ℕ) (alter : Month → Month) → alter (get_or months k no_month) ≡ get_or months k no_month → altered k alter months ≡ months
 altered_alike months k alter alike = ap (set months k) alike ∙ set-get_or months k no_month
 
-pub altered_past : (s : Store) (k : ℕ) (alter : Month → Month) → s.started ≤ k → altered k alter (months_of s) ≡ months_of s
-altered_past s k alter past = set_past (months_of s) k (alter (get_or (months_of s) k no_month)) (omega (arith, length_months s))
-
 -- one month more
 counted_same : {X : Type 0} (f g : ℕ → X) (n : ℕ) → ((j : ℕ) → j < n → f j ≡ g j) → map f (range_with_len 0 n) ≡ map g (range_with_len 0 n)
 counted_same f g n same =

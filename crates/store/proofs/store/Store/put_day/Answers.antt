@@ -1,4 +1,4 @@
-use Rattle.std.proofs.Common.{◌+◌, ◌*◌, map, Some, sym, refl, ap, ◌∙◌, arith}
+use Rattle.std.proofs.Common.{◌+◌, ◌*◌, map, Some, refl, ap, ◌∙◌, arith}
 use Rattle.std.proofs.lemmas.List.{get_or_default, length-map}
 use Rattle.store.specs.Records.{first_record, peak_in}
 use Rattle.store.specs.Stores.{capacity_of}
@@ -26,14 +26,7 @@ returns-then-day-days c =
     )
 
 pub returns-else-day-days : goal.returns-else-day-days
-returns-else-day-days c = (
-  c.in_ok-check.ensures.fault,
-  record {
-    months = sym (readings_past c.args.self.now c.args.k (96 * c.args.day) c.args.readings.now (omega arith));
-    before = refl;
-    capacity = refl;
-  },
-)
+returns-else-day-days c = (c.in_ok-check.ensures.fault, readings_past c.args.self.now c.args.k (96 * c.args.day) c.args.readings.now (omega arith))
 
 pub invariant_of-self-then-day-days-clause-peaks : goal.invariant_of-self-then-day-days-clause-peaks
 invariant_of-self-then-day-days-clause-peaks c =

@@ -1,4 +1,4 @@
-use Rattle.std.proofs.Common.{◌*◌, ◌<◌, sym, refl, arith}
+use Rattle.std.proofs.Common.{◌*◌, ◌<◌, refl, arith}
 use Rattle.std.proofs.lemmas.List.{length-set}
 use Rattle.std.proofs.lemmas.Bool.{le-leb}
 use Rattle.store.specs.Months.{with_price}
@@ -22,11 +22,4 @@ returns-then-hour-days_of c =
     )
 
 pub returns-else-hour-days_of : goal.returns-else-hour-days_of
-returns-else-hour-days_of c = (
-  le-leb c.args.price 99999 (omega arith),
-  record {
-    months = sym (hour_past c.args.self.now c.args.k c.args.hour (with_price c.args.hour c.args.price) _ (omega arith) refl);
-    before = refl;
-    capacity = refl;
-  },
-)
+returns-else-hour-days_of c = (le-leb c.args.price 99999 (omega arith), hour_past c.args.self.now c.args.k c.args.hour (with_price c.args.hour c.args.price) _ (omega arith) refl)

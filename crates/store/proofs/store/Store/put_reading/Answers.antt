@@ -61,14 +61,7 @@ returns-after-reading-peak c =
     )
 
 pub returns-else-quarter-days : goal.returns-else-quarter-days
-returns-else-quarter-days c = (
-  c.in_ok-posted.ensures.0,
-  record {
-    months = sym (readings_past c.args.self.now c.args.k c.args.quarter (c.args.reading ∷ []) (omega arith));
-    before = refl;
-    capacity = refl;
-  },
-)
+returns-else-quarter-days c = (c.in_ok-posted.ensures.0, readings_past c.args.self.now c.args.k c.args.quarter (c.args.reading ∷ []) (omega arith))
 
 pub invariant_of-self-after-reading-peak-clause-quartered : goal.invariant_of-self-after-reading-peak-clause-quartered
 invariant_of-self-after-reading-peak-clause-quartered c =

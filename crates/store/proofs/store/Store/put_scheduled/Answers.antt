@@ -1,4 +1,4 @@
-use Rattle.std.proofs.Common.{◌*◌, ◌<◌, sym, refl, arith}
+use Rattle.std.proofs.Common.{◌*◌, ◌<◌, refl, arith}
 use Rattle.std.proofs.lemmas.List.{length-set}
 use Rattle.std.proofs.lemmas.Bool.{le-leb}
 use Rattle.store.specs.Months.{with_scheduled}
@@ -22,11 +22,4 @@ returns-then-hour-days_of c =
     )
 
 pub returns-else-hour-days_of : goal.returns-else-hour-days_of
-returns-else-hour-days_of c = (
-  le-leb c.args.kw 1000000 (omega arith),
-  record {
-    months = sym (hour_past c.args.self.now c.args.k c.args.hour (with_scheduled c.args.hour c.args.kw) _ (omega arith) refl);
-    before = refl;
-    capacity = refl;
-  },
-)
+returns-else-hour-days_of c = (le-leb c.args.kw 1000000 (omega arith), hour_past c.args.self.now c.args.k c.args.hour (with_scheduled c.args.hour c.args.kw) _ (omega arith) refl)
