@@ -1,15 +1,15 @@
 -- What a store holds: its months, the peaks before them, and its room.
-use Rattle.std.specs.Prelude.{◌≡◌, Bool, true, false, Result, MatchResult, ℕ, ◌+◌, ◌/◌, min, List, map, length, take, slice_index_or}
+use Rattle.std.specs.Prelude.{◌≡◌, Bool, true, false, Result, MatchResult, ℕ, ◌/◌, min, List, map, length, take}
 use Rattle.std.specs.List.{range_with_len}
 use Rattle.store.specs.Months.{Month, altered, quarters_of, hours_of, ratchet}
-use Rattle.store.specs.Records.{first_record, hour_of, reading_of, stretch}
+use Rattle.store.specs.Records.{hour_of, reading_of, record_in, stretch}
 use Rattle.store.specs.declared.errors.OutsideLimit.{OutsideLimit}
 use Rattle.store.specs.declared.store.Store.{Store}
 
 -- the month at place k, from 0
 unfoldable pub month_of : Store → ℕ → Month
 month_of store k =
-    let month = slice_index_or store.records (ratchet + k) first_record in
+    let month = record_in store.records k in
     record {
       days = month.days;
       state = month.state;

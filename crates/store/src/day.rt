@@ -31,6 +31,7 @@ pub(crate) fn write(quarters: &mut [Quarter], readings: &[Reading])
     requires readings_len { prefix_len reading_within readings.now ≡ length readings.now }
     ensures { map reading_of quarters.new ≡ map Some readings.now }
 {
+    // by index: a proof does not know what is written through `iter_mut`
     for (i, reading) in readings.iter().enumerate() {
         if let Ok(quarter) = Quarter::try_from(*reading) {
             quarters[i] = quarter;

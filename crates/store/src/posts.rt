@@ -41,7 +41,7 @@ impl Store<'_> {
         Ok(k as u32 + 1)
     }
 
-    // The peaks of the months before month 1, the latest first; none is carried where there are more
+    // The peaks of the months before month 1, the latest first; all are refused where there are more
     // than the ratchet looks back or one is outside its limit.
     pub fn carry(&mut self, carried: &[u32]) -> Result<(), CannotCarry>
         ensures result { is_ok result ≡ carriable carried.now }
@@ -53,14 +53,14 @@ impl Store<'_> {
         if !carried::can_carry(carried) {
             return Err(CannotCarry);
         }
-        // a field of a store is not lent in part
+        // the check does not lend a part of a store's field
         let mut records = self.records;
         carried::write(&mut records[..RATCHET], carried);
         self.records = records;
         Ok(())
     }
 
-    // A quarter's reading, both places from 0, which may be outside its limits.
+    // A quarter's reading, both places from 0; refused outside its limits.
     pub fn put_reading(
         &mut self,
         k: usize,
@@ -89,7 +89,7 @@ impl Store<'_> {
         Ok(())
     }
 
-    // A day's 96 readings, both places from 0; none is posted where one is outside its limits or
+    // A day's 96 readings, both places from 0; all are refused where one is outside its limits or
     // there are not 96.
     pub fn put_day(
         &mut self,
@@ -110,7 +110,7 @@ impl Store<'_> {
         Ok(())
     }
 
-    // The pool price of an hour, both places from 0, which may be outside its limit.
+    // The pool price of an hour, both places from 0; refused outside its limit.
     pub fn put_price(&mut self, k: usize, hour: usize, price: u32) -> Result<(), OutsideLimit>
         ensures { Posts (price_within price) k (with_price hour price) self.old result self.new }
     {
@@ -123,7 +123,8 @@ impl Store<'_> {
         Ok(())
     }
 
-    // The scheduled kW of an hour, both places from 0, which may be outside its limit.
+    // The scheduled kW of an hour, both places from 0; refused outside its limit. It differs from a
+    // price in its limit and in the field written, so that one function for both is no plainer.
     pub fn put_scheduled(&mut self, k: usize, hour: usize, kw: u32) -> Result<(), OutsideLimit>
         ensures { Posts (scheduled_within kw) k (with_scheduled hour kw) self.old result self.new }
     {
