@@ -3,11 +3,11 @@ use Rattle.std.proofs.Common.{◌≡◌, ℕ, ◌+◌, ◌*◌, ◌<◌, ◌≤�
 use lib.LanesLaws.{map-replicate}
 use lib.Seq.{sets}
 use mathlib.Core.List.{map-map}
-use Rattle.std.proofs.lemmas.List.{get_or-map, get_or_past, get_or-set_other, get_or-set_same, length-map, length-replicate, map-set, set_past, take-set-le}
+use Rattle.std.proofs.lemmas.List.{get_or-map, get_or_past, get_or-set_other, get_or-set_same, length-map, length-replicate, length-set, map-set, set_past, take-set-le}
 use Rattle.std.proofs.lemmas.Bool.{cases_eq, cases_lt, cond-true}
 use Rattle.store.specs.Months.{HourOnFile, Month, altered, fresh, hours_of, kw_of, no_month, price_within, quarters_of, ratchet, top, with_price, with_readings, with_scheduled, with_state}
 use Rattle.store.specs.Records.{first_record, hour_of, peak_in, reading_of, record_in, stretch}
-use Rattle.store.specs.Stores.{Alters, before_of, month_of, months_of}
+use Rattle.store.specs.Stores.{Alters, before_of, capacity_of, month_of, months_of}
 use Rattle.store.specs.declared.month.MonthRecord.{MonthRecord}
 use Rattle.store.specs.declared.quarter.Hour.{Hour}
 use Rattle.store.specs.declared.quarter.Quarter.{Quarter}
@@ -94,7 +94,7 @@ module _ (s t : Store) (k at : ℕ) (there : k < s.started) (below : at < hours_
       rw months (get_or_stretch 744 k (hours_of (record_at s k).days) (hours_in s) at _ below
       ∙ get_or-map hour_of s.memory.hours.now (744 * k + at) d _ (omega (arith, (record_at s k).length.1)))
 
-  pub months_with_hour : (alter : Month → Month) (hour : Hour) → t.started ≡ s.started → t.records ≡ s.records → t.memory.quarters.now ≡ s.memory.quarters.now → t.memory.hours.now ≡ set s.memory.hours.now (744 * k + at) hour → alter (month_of s k) ≡ record { days = (month_of s k).days; state = (month_of s k).state; readings = (month_of s k).readings; hours = set (month_of s k).hours at (hour_of hour) } → months_of t ≡ altered k alter (months_of s)
+  months_with_hour : (alter : Month → Month) (hour : Hour) → t.started ≡ s.started → t.records ≡ s.records → t.memory.quarters.now ≡ s.memory.quarters.now → t.memory.hours.now ≡ set s.memory.hours.now (744 * k + at) hour → alter (month_of s k) ≡ record { days = (month_of s k).days; state = (month_of s k).state; readings = (month_of s k).readings; hours = set (month_of s k).hours at (hour_of hour) } → months_of t ≡ altered k alter (months_of s)
   months_with_hour alter hour started records quarters hours is =
       let months = month_parts s k _ _ _ _ refl refl refl refl in
       let written : hours_in t ≡ set (hours_in s) (744 * k + at) (hour_of hour) = ap (map hour_of) hours ∙ map-set hour_of s.memory.hours.now (744 * k + at) hour in
@@ -112,16 +112,24 @@ module _ (s t : Store) (k at : ℕ) (there : k < s.started) (below : at < hours_
         hours = rw written (stretch_set_other 744 j k (hours_of (record_at s j).days) (hours_in s) at (hour_of hour) other (omega (arith, (record_at s j).length.1)) (omega (arith, (record_at s k).length.1)));
       })
 
-  pub months_with_price : (price : ℕ) (hour d : Hour) → t.started ≡ s.started → t.records ≡ s.records → t.memory.quarters.now ≡ s.memory.quarters.now → t.memory.hours.now ≡ set s.memory.hours.now (744 * k + at) hour → price_within price ≡ true → hour.price ≡ price → hour.scheduled ≡ (get_or s.memory.hours.now (744 * k + at) d).scheduled → months_of t ≡ altered k (with_price at price) (months_of s)
-  months_with_price price hour d started records quarters hours within is kept =
+  alters_hour : (alter : Month → Month) (hour : Hour) → t.started ≡ s.started → t.records ≡ s.records → t.memory.quarters.now ≡ s.memory.quarters.now → t.memory.hours.now ≡ set s.memory.hours.now (744 * k + at) hour → alter (month_of s k) ≡ record { days = (month_of s k).days; state = (month_of s k).state; readings = (month_of s k).readings; hours = set (month_of s k).hours at (hour_of hour) } → Alters k alter s t
+  unfolding before_of capacity_of
+  alters_hour alter hour started records quarters hours is = record {
+    months = months_with_hour alter hour started records quarters hours is;
+    before = rw records refl;
+    capacity = rw (quarters, hours, length-set) refl;
+  }
+
+  pub alters_price : (price : ℕ) (hour d : Hour) → t.started ≡ s.started → t.records ≡ s.records → t.memory.quarters.now ≡ s.memory.quarters.now → t.memory.hours.now ≡ set s.memory.hours.now (744 * k + at) hour → price_within price ≡ true → hour.price ≡ price → hour.scheduled ≡ (get_or s.memory.hours.now (744 * k + at) d).scheduled → Alters k (with_price at price) s t
+  alters_price price hour d started records quarters hours within is kept =
       let old = old_hour d in
       let posted = cond-true (leb price 99999) (Some price) None within in
-      months_with_hour (with_price at price) hour started records quarters hours cc
+      alters_hour (with_price at price) hour started records quarters hours cc
 
-  pub months_with_scheduled : (kw : ℕ) (hour d : Hour) → t.started ≡ s.started → t.records ≡ s.records → t.memory.quarters.now ≡ s.memory.quarters.now → t.memory.hours.now ≡ set s.memory.hours.now (744 * k + at) hour → hour.scheduled ≡ kw → hour.price ≡ (get_or s.memory.hours.now (744 * k + at) d).price → months_of t ≡ altered k (with_scheduled at kw) (months_of s)
-  months_with_scheduled kw hour d started records quarters hours is kept =
+  pub alters_scheduled : (kw : ℕ) (hour d : Hour) → t.started ≡ s.started → t.records ≡ s.records → t.memory.quarters.now ≡ s.memory.quarters.now → t.memory.hours.now ≡ set s.memory.hours.now (744 * k + at) hour → hour.scheduled ≡ kw → hour.price ≡ (get_or s.memory.hours.now (744 * k + at) d).price → Alters k (with_scheduled at kw) s t
+  alters_scheduled kw hour d started records quarters hours is kept =
       let old = old_hour d in
-      months_with_hour (with_scheduled at kw) hour started records quarters hours cc
+      alters_hour (with_scheduled at kw) hour started records quarters hours cc
 
 -- the record of one month written
 module _ (s t : Store) (k : ℕ) (r : MonthRecord) (few : k < 48) (written : t.records ≡ set s.records (ratchet + k) r) where
