@@ -1,12 +1,13 @@
 -- The months of a store after a post to one of them.
 use Rattle.std.proofs.Common.{◌≡◌, ℕ, ◌+◌, ◌*◌, ◌<◌, ◌≤◌, true, leb, ◌≢◌, List, [], ◌∷◌, ◌++◌, map, length, get_or, set, replicate, Some, None, Option, sym, refl, ap, ◌∙◌, inl, inr, arith}
+use lib.LanesLaws.{map-replicate}
 use lib.Seq.{sets}
 use mathlib.Core.List.{map-map}
-use Rattle.std.proofs.lemmas.List.{get_or-map, get_or_past, get_or-set_other, get_or-set_same, length-map, length-replicate, map-set, set_past, take-set-le}
+use Rattle.std.proofs.lemmas.List.{get_or-map, get_or_past, get_or-set_other, get_or-set_same, length-map, length-replicate, length-set, map-set, set_past, take-set-le}
 use Rattle.std.proofs.lemmas.Bool.{cases_eq, cases_lt, cond-true}
 use Rattle.store.specs.Months.{HourOnFile, Month, altered, fresh, hours_of, kw_of, no_month, price_within, quarters_of, ratchet, top, with_price, with_readings, with_scheduled, with_state}
 use Rattle.store.specs.Records.{first_record, hour_of, peak_in, reading_of, record_in, stretch}
-use Rattle.store.specs.Stores.{before_of, month_of, months_of}
+use Rattle.store.specs.Stores.{Alters, before_of, capacity_of, month_of, months_of}
 use Rattle.store.specs.declared.month.MonthRecord.{MonthRecord}
 use Rattle.store.specs.declared.quarter.Hour.{Hour}
 use Rattle.store.specs.declared.quarter.Quarter.{Quarter}
@@ -15,7 +16,7 @@ use Rattle.store.specs.declared.state.State.{State}
 use Rattle.store.specs.declared.state.State.TheVariants.{Open}
 use Rattle.store.specs.declared.store.Store.{Store}
 use Rattle.store.proofs.Peaks.{top_replicate, top_set_over, top_set_under}
-use Rattle.store.proofs.Stretches.{altered_alike, get_or_months, get_or_stretch, length_months, length_stretch, map-replicate, months_altered, months_pushed, sets_past, stretch_cleared, stretch_map, stretch_set, stretch_set_other, stretch_sets, stretch_sets_other}
+use Rattle.store.proofs.Stretches.{altered_alike, get_or_months, get_or_stretch, length_months, length_stretch, months_altered, months_pushed, sets_past, stretch_cleared, stretch_map, stretch_set, stretch_set_other, stretch_sets, stretch_sets_other}
 
 abbrev pub record_at : Store → ℕ → MonthRecord
 record_at s k = record_in s.records k
@@ -54,7 +55,14 @@ pub no_days : no_month.days ≡ 0
 unfolding no_month fresh
 no_days = refl
 
--- places past a month's last quarter and hour
+-- nothing is written past the last month, and past a month's last quarter and hour
+unaltered : (s : Store) (k : ℕ) (alter : Month → Month) → altered k alter (months_of s) ≡ months_of s → Alters k alter s s
+unaltered s k alter same = record { months = sym same; before = refl; capacity = refl }
+
+pub month_past : (s : Store) (k : ℕ) (alter : Month → Month) → s.started ≤ k → Alters k alter s s
+month_past s k alter past =
+    unaltered s k alter (set_past (months_of s) k (alter (get_or (months_of s) k no_month)) (omega (arith, length_months s)))
+
 months_length : (s : Store) (k : ℕ) → (length (get_or (months_of s) k no_month).readings ≡ quarters_of (get_or (months_of s) k no_month).days) × (length (get_or (months_of s) k no_month).hours ≡ hours_of (get_or (months_of s) k no_month).days)
 unfolding no_month fresh
 months_length s k =
@@ -68,15 +76,15 @@ months_length s k =
       | inr past ↦ rw (get_or_past (months_of s) k no_month (omega (arith, length_months s))) (refl, refl)
     ]
 
-pub hour_past : (s : Store) (k at : ℕ) (alter : Month → Month) (v : HourOnFile) → let month = get_or (months_of s) k no_month in hours_of month.days ≤ at → alter month ≡ record { days = month.days; state = month.state; readings = month.readings; hours = set month.hours at v } → altered k alter (months_of s) ≡ months_of s
+pub hour_past : (s : Store) (k at : ℕ) (alter : Month → Month) (v : HourOnFile) → let month = get_or (months_of s) k no_month in hours_of month.days ≤ at → alter month ≡ record { days = month.days; state = month.state; readings = month.readings; hours = set month.hours at v } → Alters k alter s s
 hour_past s k at alter v past is =
     let same = set_past (get_or (months_of s) k no_month).hours at v (omega (arith, (months_length s k).1)) in
-    altered_alike (months_of s) k alter (is ∙ rw same refl)
+    unaltered s k alter (altered_alike (months_of s) k alter (is ∙ rw same refl))
 
-pub readings_past : (s : Store) (k at : ℕ) (readings : List Reading) → quarters_of (get_or (months_of s) k no_month).days ≤ at → altered k (with_readings at readings) (months_of s) ≡ months_of s
+pub readings_past : (s : Store) (k at : ℕ) (readings : List Reading) → quarters_of (get_or (months_of s) k no_month).days ≤ at → Alters k (with_readings at readings) s s
 readings_past s k at readings past =
     let same = sets_past (get_or (months_of s) k no_month).readings at (map Some readings) (omega (arith, (months_length s k).0)) in
-    altered_alike (months_of s) k (with_readings at readings) (rw same refl)
+    unaltered s k (with_readings at readings) (altered_alike (months_of s) k (with_readings at readings) (rw same refl))
 
 -- one hour written
 module _ (s t : Store) (k at : ℕ) (there : k < s.started) (below : at < hours_of (record_at s k).days) where
@@ -86,12 +94,12 @@ module _ (s t : Store) (k at : ℕ) (there : k < s.started) (below : at < hours_
       rw months (get_or_stretch 744 k (hours_of (record_at s k).days) (hours_in s) at _ below
       ∙ get_or-map hour_of s.memory.hours.now (744 * k + at) d _ (omega (arith, (record_at s k).length.1)))
 
-  pub months_with_hour : (alter : Month → Month) (hour : Hour) → t.started ≡ s.started → t.records ≡ s.records → t.memory.quarters.now ≡ s.memory.quarters.now → t.memory.hours.now ≡ set s.memory.hours.now (744 * k + at) hour → alter (month_of s k) ≡ record { days = (month_of s k).days; state = (month_of s k).state; readings = (month_of s k).readings; hours = set (month_of s k).hours at (hour_of hour) } → months_of t ≡ altered k alter (months_of s)
+  months_with_hour : (alter : Month → Month) (hour : Hour) → t.started ≡ s.started → t.records ≡ s.records → t.memory.quarters.now ≡ s.memory.quarters.now → t.memory.hours.now ≡ set s.memory.hours.now (744 * k + at) hour → alter (month_of s k) ≡ record { days = (month_of s k).days; state = (month_of s k).state; readings = (month_of s k).readings; hours = set (month_of s k).hours at (hour_of hour) } → months_of t ≡ altered k alter (months_of s)
   months_with_hour alter hour started records quarters hours is =
       let months = month_parts s k _ _ _ _ refl refl refl refl in
       let written : hours_in t ≡ set (hours_in s) (744 * k + at) (hour_of hour) = ap (map hour_of) hours ∙ map-set hour_of s.memory.hours.now (744 * k + at) hour in
       let kept : readings_in t ≡ readings_in s = ap (map reading_of) quarters in
-      let own = stretch_set 744 k (hours_of (record_at s k).days) (hours_in s) at (hour_of hour) below (rw length-map (omega (arith, (record_at s k).length.1))) in
+      let own = stretch_set 744 k (hours_of (record_at s k).days) (hours_in s) at (hour_of hour) below in
       months_altered s t k alter started there
       (month_parts t k (record_at s k).days (record_at s k).state (readings_at s k (record_at s k).days) (set (hours_at s k (record_at s k).days) at (hour_of hour))
       (ap (λ rs. (get_or rs (ratchet + k) first_record).days) records) (ap (λ rs. (get_or rs (ratchet + k) first_record).state) records)
@@ -101,19 +109,27 @@ module _ (s t : Store) (k at : ℕ) (there : k < s.started) (below : at < hours_
         days = ap (λ rs. (get_or rs (ratchet + j) first_record).days) records;
         state = ap (λ rs. (get_or rs (ratchet + j) first_record).state) records;
         readings = rw kept refl;
-        hours = rw written (stretch_set_other 744 j k (hours_of (record_at s j).days) (hours_in s) at (hour_of hour) other (omega (arith, (record_at s j).length.1)) (omega (arith, (record_at s k).length.1)) (rw length-map (omega (arith, (record_at s j).length.1))));
+        hours = rw written (stretch_set_other 744 j k (hours_of (record_at s j).days) (hours_in s) at (hour_of hour) other (omega (arith, (record_at s j).length.1)) (omega (arith, (record_at s k).length.1)));
       })
 
-  pub months_with_price : (price : ℕ) (hour d : Hour) → t.started ≡ s.started → t.records ≡ s.records → t.memory.quarters.now ≡ s.memory.quarters.now → t.memory.hours.now ≡ set s.memory.hours.now (744 * k + at) hour → price_within price ≡ true → hour.price ≡ price → hour.scheduled ≡ (get_or s.memory.hours.now (744 * k + at) d).scheduled → months_of t ≡ altered k (with_price at price) (months_of s)
-  months_with_price price hour d started records quarters hours within is kept =
+  alters_hour : (alter : Month → Month) (hour : Hour) → t.started ≡ s.started → t.records ≡ s.records → t.memory.quarters.now ≡ s.memory.quarters.now → t.memory.hours.now ≡ set s.memory.hours.now (744 * k + at) hour → alter (month_of s k) ≡ record { days = (month_of s k).days; state = (month_of s k).state; readings = (month_of s k).readings; hours = set (month_of s k).hours at (hour_of hour) } → Alters k alter s t
+  unfolding before_of capacity_of
+  alters_hour alter hour started records quarters hours is = record {
+    months = months_with_hour alter hour started records quarters hours is;
+    before = rw records refl;
+    capacity = rw (quarters, hours, length-set) refl;
+  }
+
+  pub alters_price : (price : ℕ) (hour d : Hour) → t.started ≡ s.started → t.records ≡ s.records → t.memory.quarters.now ≡ s.memory.quarters.now → t.memory.hours.now ≡ set s.memory.hours.now (744 * k + at) hour → price_within price ≡ true → hour.price ≡ price → hour.scheduled ≡ (get_or s.memory.hours.now (744 * k + at) d).scheduled → Alters k (with_price at price) s t
+  alters_price price hour d started records quarters hours within is kept =
       let old = old_hour d in
       let posted = cond-true (leb price 99999) (Some price) None within in
-      months_with_hour (with_price at price) hour started records quarters hours cc
+      alters_hour (with_price at price) hour started records quarters hours cc
 
-  pub months_with_scheduled : (kw : ℕ) (hour d : Hour) → t.started ≡ s.started → t.records ≡ s.records → t.memory.quarters.now ≡ s.memory.quarters.now → t.memory.hours.now ≡ set s.memory.hours.now (744 * k + at) hour → hour.scheduled ≡ kw → hour.price ≡ (get_or s.memory.hours.now (744 * k + at) d).price → months_of t ≡ altered k (with_scheduled at kw) (months_of s)
-  months_with_scheduled kw hour d started records quarters hours is kept =
+  pub alters_scheduled : (kw : ℕ) (hour d : Hour) → t.started ≡ s.started → t.records ≡ s.records → t.memory.quarters.now ≡ s.memory.quarters.now → t.memory.hours.now ≡ set s.memory.hours.now (744 * k + at) hour → hour.scheduled ≡ kw → hour.price ≡ (get_or s.memory.hours.now (744 * k + at) d).price → Alters k (with_scheduled at kw) s t
+  alters_scheduled kw hour d started records quarters hours is kept =
       let old = old_hour d in
-      months_with_hour (with_scheduled at kw) hour started records quarters hours cc
+      alters_hour (with_scheduled at kw) hour started records quarters hours cc
 
 -- the record of one month written
 module _ (s t : Store) (k : ℕ) (r : MonthRecord) (few : k < 48) (written : t.records ≡ set s.records (ratchet + k) r) where
@@ -151,7 +167,7 @@ peak_readings quarters k days =
 module _ (s : Store) (k at : ℕ) (posted : List (Option Reading)) (fits : at + length posted ≤ 2976) (quarters : List Quarter) (written : map reading_of quarters ≡ sets (readings_in s) (2976 * k + at) posted) where
   other_readings : (j : ℕ) → j < s.started → j ≢ k → stretch 2976 j (quarters_of (record_at s j).days) (map reading_of quarters) ≡ readings_at s j (record_at s j).days
   other_readings j there other =
-      rw written (stretch_sets_other 2976 j k (quarters_of (record_at s j).days) (readings_in s) at posted other (omega (arith, (record_at s j).length.1)) fits (rw length-map (omega (arith, (record_at s j).length.1))))
+      rw written (stretch_sets_other 2976 j k (quarters_of (record_at s j).days) (readings_in s) at posted other (omega (arith, (record_at s j).length.1)) fits)
 
   -- the peaks kept stay those of their stretches, in a store of n months
   pub peaks_kept : (month : MonthRecord) → k < 48 → month.peak ≡ peak_in quarters k month.days → (n : ℕ) → ((j : ℕ) → j < n → j ≢ k → j < s.started) → (j : ℕ) → j < n → (get_or (set s.records (ratchet + k) month) (ratchet + j) first_record).peak ≡ peak_in quarters j (get_or (set s.records (ratchet + k) month) (ratchet + j) first_record).days
@@ -176,7 +192,7 @@ module _ (s : Store) (k at : ℕ) (posted : List (Option Reading)) (fits : at + 
       let own = record_own s t k month (omega arith) records in
       let kept : hours_in t ≡ hours_in s = ap (map hour_of) hours in
       let lent : readings_in t ≡ map reading_of quarters = ap (map reading_of) memory in
-      let fresh_own = stretch_sets 2976 k (quarters_of (record_at s k).days) (readings_in s) at posted below (rw length-map (omega (arith, (record_at s k).length.1))) in
+      let fresh_own = stretch_sets 2976 k (quarters_of (record_at s k).days) (readings_in s) at posted below in
       months_altered s t k (with_readings at readings) started there
       (month_parts t k (record_at s k).days (record_at s k).state (sets (readings_at s k (record_at s k).days) at posted) (hours_at s k (record_at s k).days)
       (ap (λ m. m.days) own ∙ days) (ap (λ m. m.state) own ∙ state)
@@ -197,7 +213,7 @@ module _ (quarters : List Quarter) (k days at : ℕ) (posted : Quarter) (below :
   peak_set : peak_in (set quarters (2976 * k + at) posted) k days ≡ top (set kw_in at (kw_of (reading_of posted)))
   unfolding peak_in kw_in
   peak_set =
-      rw (stretch_set 2976 k (quarters_of days) quarters at posted below there)
+      rw (stretch_set 2976 k (quarters_of days) quarters at posted below)
       (ap top (map-set (λ quarter. kw_of (reading_of quarter)) (stretch 2976 k (quarters_of days) quarters) at posted))
 
   pub peak_over : peak_in quarters k days ≤ kw_of (reading_of posted) → peak_in (set quarters (2976 * k + at) posted) k days ≡ kw_of (reading_of posted)
@@ -238,5 +254,5 @@ months_started s t days month few short quarters hours started records of_days o
       days = ap (λ m. m.days) same;
       state = ap (λ m. m.state) same;
       readings = other_readings s k 0 (replicate (quarters_of days) None) (omega (arith, many)) t.memory.quarters.now written j there other;
-      hours = rw cleared (stretch_sets_other 744 j k (hours_of (record_at s j).days) (hours_in s) 0 (replicate (hours_of days) none) other (omega (arith, (record_at s j).length.1)) (omega (arith, many')) (rw length-map (omega (arith, (record_at s j).length.1))));
+      hours = rw cleared (stretch_sets_other 744 j k (hours_of (record_at s j).days) (hours_in s) 0 (replicate (hours_of days) none) other (omega (arith, (record_at s j).length.1)) (omega (arith, many')));
     })

@@ -1,11 +1,12 @@
 -- Stretches of memory and the months in them, after writes.
-use Rattle.std.proofs.Common.{◌≡◌, ℕ, zero, suc, ◌+◌, ◌*◌, ◌<◌, ◌≤◌, ◌≢◌, List, [], ◌∷◌, ◌++◌, map, length, get_or, take, drop, set, replicate, sym, refl, ap, ◌∙◌, inl, inr, add-suc, mul-le-mul_left, mul-add, arith, length-drop, length-take}
+use Rattle.std.proofs.Common.{◌≡◌, ℕ, suc, ◌+◌, ◌-◌, ◌*◌, ◌<◌, ◌≤◌, ◌≢◌, List, [], ◌∷◌, ◌++◌, map, length, get_or, take, drop, set, replicate, sym, refl, ap, ◌∙◌, inl, inr, add-suc, mul-le-mul_left, mul-add, arith, length-drop, length-take}
 use borrow.Rule.Slice.PartMut.{put_mid}
 use lib.Seq.{sets, length-sets}
 use Rattle.std.specs.List.{range_with_len}
+use Rattle.std.proofs.Math.Seq.{take-set-lt}
 use Rattle.std.proofs.lemmas.List.FromFn.{get_or-map-range_with_len, length-map-range_with_len, map-range_with_len_more}
 use Rattle.std.proofs.lemmas.List.Edits.{paste_all, sets-eq}
-use Rattle.std.proofs.lemmas.List.{append_assoc, append-nil, drop_all, drop-map, ext_get_or, get_or-drop, get_or-take, get_or-set_other, get_or-set_same, length-map, length-replicate, length-set, map-append, same_lists, set-get_or, set_past, take-map}
+use Rattle.std.proofs.lemmas.List.{append_assoc, append-nil, drop_all, drop-map, drop-set-add, drop-set-lt, take-set-le, ext_get_or, get_or-drop, get_or-take, get_or-set_other, get_or-set_same, length-map, length-replicate, length-set, map-append, same_lists, set-get_or, set_past, take-map}
 use Rattle.std.proofs.lemmas.Slice.{put_mid-paste}
 use Rattle.std.proofs.lemmas.Bool.{cases_eq, cases_lt}
 use Rattle.store.specs.Months.{Month, altered, no_month}
@@ -14,14 +15,6 @@ use Rattle.store.specs.Stores.{month_of, months_of}
 use Rattle.store.specs.declared.store.Store.{Store}
 
 -- ---- stretches
-
--- places of two months differ
-pub apart : (room j k a b : ℕ) → a < room → b < room → j ≢ k → room * j + a ≢ room * k + b
-apart room j k a b in_j in_k other same =
-    elim (cases_lt j k) [
-      | inl below ↦ omega (arith, mul-le-mul_left {m = j + 1} {n = k} room (omega arith), mul-add room j 1)
-      | inr above ↦ omega (arith, mul-le-mul_left {m = k + 1} {n = j} room (omega (arith, other)), mul-add room k 1)
-    ]
 
 module _ {X : Type 0} where
   pub stretch_map : {Y : Type 0} (f : X → Y) (room k n : ℕ) (xs : List X) → map f (stretch room k n xs) ≡ stretch room k n (map f xs)
@@ -36,51 +29,38 @@ module _ {X : Type 0} where
   unfolding stretch
   get_or_stretch room k n xs i d below = get_or-take n (drop (room * k) xs) i d below ∙ get_or-drop (room * k) xs i d
 
-  pub stretch_same : (room k n : ℕ) (xs ys : List X) → room * k + n ≤ length xs → room * k + n ≤ length ys → ((i : ℕ) (d : X) → i < n → get_or xs (room * k + i) d ≡ get_or ys (room * k + i) d) → stretch room k n xs ≡ stretch room k n ys
-  stretch_same room k n xs ys in_xs in_ys same =
-      let lx = length_stretch room k n xs in_xs in
-      let ly = length_stretch room k n ys in_ys in
-      same_lists _ _ (lx ∙ sym ly) (λ i d h.
-      let below : i < n = omega (arith, lx) in
-      get_or_stretch room k n xs i d below ∙ same i d below ∙ sym (get_or_stretch room k n ys i d below))
-
   -- one place written, in another month and in the month's own
-  pub stretch_set_other : (room j k n : ℕ) (xs : List X) (at : ℕ) (v : X) → j ≢ k → n ≤ room → at < room → room * j + n ≤ length xs → stretch room j n (set xs (room * k + at) v) ≡ stretch room j n xs
-  stretch_set_other room j k n xs at v other short below there =
-      stretch_same room j n (set xs (room * k + at) v) xs (simp length-set there) there
-      (λ i d h. get_or-set_other xs (room * k + at) (room * j + i) v d (apart room j k i at (omega arith) below other))
+  pub stretch_set_other : (room j k n : ℕ) (xs : List X) (at : ℕ) (v : X) → j ≢ k → n ≤ room → at < room → stretch room j n (set xs (room * k + at) v) ≡ stretch room j n xs
+  unfolding stretch
+  stretch_set_other room j k n xs at v other short below =
+      let place = room * k + at in
+      elim (cases_lt j k) [
+        | inl before ↦
+            let far : room * j + n ≤ place = omega (arith, mul-le-mul_left {m = j + 1} {n = k} room (omega arith), mul-add room j 1) in
+            let rest : place ≡ room * j + (place - room * j) = omega arith in
+            ap (λ i. take n (drop (room * j) (set xs i v))) rest
+            ∙ ap (take n) (drop-set-add (room * j) xs (place - room * j) v)
+            ∙ take-set-le n (drop (room * j) xs) (place - room * j) v (omega arith)
+        | inr after ↦
+            ap (take n) (drop-set-lt (room * j) xs place v (omega (arith, mul-le-mul_left {m = k + 1} {n = j} room (omega (arith, other)), mul-add room k 1)))
+      ]
 
-  pub stretch_set : (room k n : ℕ) (xs : List X) (at : ℕ) (v : X) → at < n → room * k + n ≤ length xs → stretch room k n (set xs (room * k + at) v) ≡ set (stretch room k n xs) at v
-  stretch_set room k n xs at v below there =
-      let long = length_stretch room k n xs there in
-      let long' = length_stretch room k n (set xs (room * k + at) v) (simp length-set there) in
-      same_lists _ _ (long' ∙ sym long ∙ sym (length-set (stretch room k n xs) at v)) (λ i d h.
-      let in_n : i < n = omega (arith, long') in
-      let written = get_or_stretch room k n (set xs (room * k + at) v) i d in_n in
-      elim (cases_eq i at) [
-        | inl same ↦
-            let own = get_or-set_same (stretch room k n xs) at v d (omega arith) in
-            let place = get_or-set_same xs (room * k + at) v d (omega arith) in
-            cc
-        | inr other ↦
-            let own = get_or-set_other (stretch room k n xs) at i v d other in
-            let place = get_or-set_other xs (room * k + at) (room * k + i) v d (λ e. other (omega arith)) in
-            let read = get_or_stretch room k n xs i d in_n in
-            cc
-      ])
+  pub stretch_set : (room k n : ℕ) (xs : List X) (at : ℕ) (v : X) → at < n → stretch room k n (set xs (room * k + at) v) ≡ set (stretch room k n xs) at v
+  unfolding stretch
+  stretch_set room k n xs at v below = ap (take n) (drop-set-add (room * k) xs at v) ∙ take-set-lt n (drop (room * k) xs) at v below
 
   -- places in a row
-  pub stretch_sets_other : (room j k n : ℕ) (xs : List X) (at : ℕ) (vs : List X) → j ≢ k → n ≤ room → at + length vs ≤ room → room * j + n ≤ length xs → stretch room j n (sets xs (room * k + at) vs) ≡ stretch room j n xs
-  stretch_sets_other room j k n xs at [] other short below there = refl
-  stretch_sets_other room j k n xs at (v ∷ vs) other short below there =
-      let more = stretch_sets_other room j k n (set xs (room * k + at) v) (suc at) vs other short (omega arith) (simp length-set there) in
-      rw (← add-suc (room * k) at) (more ∙ stretch_set_other room j k n xs at v other short (omega arith) there)
+  pub stretch_sets_other : (room j k n : ℕ) (xs : List X) (at : ℕ) (vs : List X) → j ≢ k → n ≤ room → at + length vs ≤ room → stretch room j n (sets xs (room * k + at) vs) ≡ stretch room j n xs
+  stretch_sets_other room j k n xs at [] other short below = refl
+  stretch_sets_other room j k n xs at (v ∷ vs) other short below =
+      let more = stretch_sets_other room j k n (set xs (room * k + at) v) (suc at) vs other short (omega arith) in
+      rw (← add-suc (room * k) at) (more ∙ stretch_set_other room j k n xs at v other short (omega arith))
 
-  pub stretch_sets : (room k n : ℕ) (xs : List X) (at : ℕ) (vs : List X) → at + length vs ≤ n → room * k + n ≤ length xs → stretch room k n (sets xs (room * k + at) vs) ≡ sets (stretch room k n xs) at vs
-  stretch_sets room k n xs at [] below there = refl
-  stretch_sets room k n xs at (v ∷ vs) below there =
-      let more = stretch_sets room k n (set xs (room * k + at) v) (suc at) vs (omega arith) (simp length-set there) in
-      rw (← add-suc (room * k) at) (more ∙ ap (λ ys. sets ys (suc at) vs) (stretch_set room k n xs at v (omega arith) there))
+  pub stretch_sets : (room k n : ℕ) (xs : List X) (at : ℕ) (vs : List X) → at + length vs ≤ n → stretch room k n (sets xs (room * k + at) vs) ≡ sets (stretch room k n xs) at vs
+  stretch_sets room k n xs at [] below = refl
+  stretch_sets room k n xs at (v ∷ vs) below =
+      let more = stretch_sets room k n (set xs (room * k + at) v) (suc at) vs (omega arith) in
+      rw (← add-suc (room * k) at) (more ∙ ap (λ ys. sets ys (suc at) vs) (stretch_set room k n xs at v (omega arith)))
 
   pub sets_past : (xs : List X) (at : ℕ) (vs : List X) → length xs ≤ at → sets xs at vs ≡ xs
   sets_past xs at [] past = refl
@@ -94,12 +74,8 @@ module _ {X : Type 0} where
   pub stretch_cleared : (room k n : ℕ) (xs : List X) (v : X) → room * k + n ≤ length xs → stretch room k n (sets xs (room * k + 0) (replicate n v)) ≡ replicate n v
   stretch_cleared room k n xs v there =
       let many = length-replicate n v in
-      stretch_sets room k n xs 0 (replicate n v) (omega (arith, many)) there
+      stretch_sets room k n xs 0 (replicate n v) (omega (arith, many))
       ∙ sets_all (stretch room k n xs) (replicate n v) (many ∙ sym (length_stretch room k n xs there))
-
-pub map-replicate : {X Y : Type 0} (f : X → Y) (n : ℕ) (v : X) → map f (replicate n v) ≡ replicate n (f v)
-map-replicate f zero v = refl
-map-replicate f (suc n) v = ap (λ ys. f v ∷ ys) (map-replicate f n v)
 
 -- a part written as a whole
 pub map_put_mid : {X Y : Type 0} (f : X → Y) (xs ys : List X) (a n : ℕ) (vs : List Y) → map f ys ≡ vs → length ys ≡ n → a + n ≤ length xs → map f (put_mid a n xs ys) ≡ sets (map f xs) a vs
@@ -150,9 +126,6 @@ months_altered s t k alter started there own others =
 
 pub altered_alike : (months : List Month) (k : ℕ) (alter : Month → Month) → alter (get_or months k no_month) ≡ get_or months k no_month → altered k alter months ≡ months
 altered_alike months k alter alike = ap (set months k) alike ∙ set-get_or months k no_month
-
-pub altered_past : (s : Store) (k : ℕ) (alter : Month → Month) → s.started ≤ k → altered k alter (months_of s) ≡ months_of s
-altered_past s k alter past = set_past (months_of s) k (alter (get_or (months_of s) k no_month)) (omega (arith, length_months s))
 
 -- one month more
 counted_same : {X : Type 0} (f g : ℕ → X) (n : ℕ) → ((j : ℕ) → j < n → f j ≡ g j) → map f (range_with_len 0 n) ≡ map g (range_with_len 0 n)

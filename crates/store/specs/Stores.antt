@@ -1,14 +1,15 @@
 -- What a store holds: its months, the peaks before them, and its room.
-use Rattle.std.specs.Prelude.{ℕ, ◌+◌, ◌/◌, min, List, map, length, take, slice_index_or}
+use Rattle.std.specs.Prelude.{◌≡◌, Bool, true, false, Result, MatchResult, ℕ, ◌/◌, min, List, map, length, take}
 use Rattle.std.specs.List.{range_with_len}
-use Rattle.store.specs.Months.{Month, quarters_of, hours_of, ratchet}
-use Rattle.store.specs.Records.{first_record, hour_of, reading_of, stretch}
+use Rattle.store.specs.Months.{Month, altered, quarters_of, hours_of, ratchet}
+use Rattle.store.specs.Records.{hour_of, reading_of, record_in, stretch}
+use Rattle.store.specs.declared.errors.OutsideLimit.{OutsideLimit}
 use Rattle.store.specs.declared.store.Store.{Store}
 
 -- the month at place k, from 0
 unfoldable pub month_of : Store → ℕ → Month
 month_of store k =
-    let month = slice_index_or store.records (ratchet + k) first_record in
+    let month = record_in store.records k in
     record {
       days = month.days;
       state = month.state;
@@ -26,3 +27,14 @@ before_of store = map (λ month. month.peak) (take ratchet store.records)
 -- how many months the memory holds
 unfoldable pub capacity_of : Store → ℕ
 capacity_of store = min 48 (min (length store.memory.quarters.now / 2976) (length store.memory.hours.now / 744))
+
+-- the month at place k is altered, and nothing else: not the peaks before month 1, nor the room
+pub record Alters (k : ℕ) (alter : Month → Month) (old new : Store) : Type 0 where
+  pub months : months_of new ≡ altered k alter (months_of old)
+  pub before : before_of new ≡ before_of old
+  pub capacity : capacity_of new ≡ capacity_of old
+
+-- a post of one value: where it is outside its limit, it is refused and nothing changes
+abbrev pub Posts : Bool → ℕ → (Month → Month) → Store → Result (Unit {0}) OutsideLimit → Store → Type 0
+Posts within k alter old result new =
+    MatchResult result (λ _. (within ≡ true) × Alters k alter old new) (λ outside. (within ≡ false) × (outside.place ≡ 0) × (new ≡ old))

@@ -35,6 +35,7 @@ impl Store<'_> {
         }
     }
 
+    // Its hours. What the two have in common is `month_stretch`; a choice of the memory would be no plainer.
     fn hours_on_file(&self, k: usize) -> &[Hour]
         ensures read { map hour_of result.now ≡ (get_or (months_of self.now) k no_month).hours }
         ensures counted { length result.now ≡ hours_of (get_or (months_of self.now) k no_month).days }
@@ -54,8 +55,9 @@ impl Store<'_> {
         ensures first { result ≡ position is_none (slice_index_or (months_of self.now) k no_month).readings }
         ensures within { IfSome result (λ quarter. quarter < 2976) }
     {
-        let mut quarters = self.quarters(k).iter();
-        quarters.position(|quarter| quarter.reading().is_none())
+        self.quarters(k)
+            .iter()
+            .position(|quarter| quarter.reading().is_none())
     }
 
     // Its first hour that has no price.
@@ -63,8 +65,9 @@ impl Store<'_> {
         ensures first { result ≡ position (λ hour. is_none hour.price) (slice_index_or (months_of self.now) k no_month).hours }
         ensures within { IfSome result (λ hour. hour < most_hours) }
     {
-        let mut hours = self.hours_on_file(k).iter();
-        hours.position(|hour| hour.price().is_none())
+        self.hours_on_file(k)
+            .iter()
+            .position(|hour| hour.price().is_none())
     }
 
     // What is missing first of the month at place `k`, a reading before a price.
@@ -85,8 +88,10 @@ impl Store<'_> {
     pub fn first_short(&self, state: State, k: usize) -> Option<usize>
         ensures { MatchOption result (first_short state (months_of self.now) k ≡ min (length (months_of self.now)) k) (λ short. (first_short state (months_of self.now) k ≡ short) × (short < min (length (months_of self.now)) k)) }
     {
-        let mut earlier = self.months().iter().take(k);
-        earlier.position(|month| !month.state.has_reached(state))
+        self.months()
+            .iter()
+            .take(k)
+            .position(|month| !month.state.has_reached(state))
     }
 
     // The demand figures of the month at place `k`; none where it is not on file.

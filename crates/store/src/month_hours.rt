@@ -5,7 +5,8 @@ ghost use Rattle.tariff.specs.Limits.{HourWithin, most_hours, no_hour};
 use crate::store::MONTH_HOURS;
 use tariff::HourRow;
 
-// The rows of a month's hours from the first on, in the room of the longest month.
+// The rows of a month's hours from the first on, in the room of the longest month, since a book has
+// no heap.
 #[derive(Drop)]
 pub struct MonthHours {
     pub(crate) rows: [HourRow; MONTH_HOURS],

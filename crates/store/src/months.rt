@@ -1,8 +1,8 @@
 // The months of a store: how many there are, and their records.
-ghost use Rattle.std.specs.Prelude.{◌≡◌, ◌+◌, ◌/◌, ◌<◌, ◌≤◌, min, [], drop, length, take, MatchOption, slice_index_or};
-ghost use Rattle.store.specs.Months.{aged, altered, no_month, peak, ratchet, with_state};
+ghost use Rattle.std.specs.Prelude.{◌≡◌, ◌+◌, ◌*◌, ◌/◌, ◌<◌, ◌≤◌, min, [], drop, length, take, MatchOption, slice_index_or};
+ghost use Rattle.store.specs.Months.{aged, no_month, peak, ratchet, with_state};
 ghost use Rattle.store.specs.Records.{record_in};
-ghost use Rattle.store.specs.Stores.{before_of, capacity_of, months_of};
+ghost use Rattle.store.specs.Stores.{Alters, before_of, capacity_of, months_of};
 
 use crate::memory::Memory;
 use crate::month::MonthRecord;
@@ -32,7 +32,10 @@ impl<'a> Store<'a> {
 
     // How many months the memory holds.
     pub(crate) fn capacity(&self) -> usize
-        ensures { result ≡ capacity_of self.now }
+        ensures held { result ≡ capacity_of self.now }
+        ensures few { self.now.started < result → self.now.started < 48 }
+        ensures quartered { self.now.started < result → 2976 * self.now.started + 2976 ≤ length self.now.memory.quarters.now }
+        ensures houred { self.now.started < result → 744 * self.now.started + 744 ≤ length self.now.memory.hours.now }
     {
         let quarters = self.memory.quarters.len() / MONTH_QUARTERS;
         let hours = self.memory.hours.len() / MONTH_HOURS;
@@ -48,9 +51,7 @@ impl<'a> Store<'a> {
 
     // Puts the month at a place, from 0, in a state; there is nothing to do past the last month.
     pub fn set_state(&mut self, k: usize, state: State)
-        ensures months { months_of self.new ≡ altered k (with_state state) (months_of self.old) }
-        ensures before { before_of self.new ≡ before_of self.old }
-        ensures capacity { capacity_of self.new ≡ capacity_of self.old }
+        ensures { Alters k (with_state state) self.old self.new }
     {
         if k < self.started {
             self.records[RATCHET + k].state = state;

@@ -1,8 +1,8 @@
 // What is posted to a store.
 ghost use Rattle.std.specs.Prelude.{◌≡◌, ◌*◌, true, false, [], ◌∷◌, ◌++◌, length, is_ok, Some, None, MatchResult, OnErr, OnOk};
-ghost use Rattle.store.specs.Months.{aged, altered, carriable, day_fault, fresh, price_within, reading_within, scheduled_within, with_price, with_readings, with_scheduled};
+ghost use Rattle.store.specs.Months.{aged, carriable, day_fault, fresh, price_within, reading_within, scheduled_within, with_price, with_readings, with_scheduled};
 ghost use Rattle.store.specs.Starts.{start_answer};
-ghost use Rattle.store.specs.Stores.{before_of, capacity_of, months_of};
+ghost use Rattle.store.specs.Stores.{Alters, Posts, before_of, capacity_of, months_of};
 
 use crate::errors::{CannotCarry, OutsideLimit};
 use crate::month::MonthRecord;
@@ -41,7 +41,7 @@ impl Store<'_> {
         Ok(k as u32 + 1)
     }
 
-    // The peaks of the months before month 1, the latest first; none is carried where there are more
+    // The peaks of the months before month 1, the latest first; all are refused where there are more
     // than the ratchet looks back or one is outside its limit.
     pub fn carry(&mut self, carried: &[u32]) -> Result<(), CannotCarry>
         ensures result { is_ok result ≡ carriable carried.now }
@@ -53,25 +53,21 @@ impl Store<'_> {
         if !carried::can_carry(carried) {
             return Err(CannotCarry);
         }
-        // a field of a store is not lent in part
+        // the check does not lend a part of a store's field
         let mut records = self.records;
         carried::write(&mut records[..RATCHET], carried);
         self.records = records;
         Ok(())
     }
 
-    // A quarter's reading, both places from 0, which may be outside its limits.
+    // A quarter's reading, both places from 0; refused outside its limits.
     pub fn put_reading(
         &mut self,
         k: usize,
         quarter: usize,
         reading: Reading,
     ) -> Result<(), OutsideLimit>
-        ensures result { MatchResult result (λ _. reading_within reading ≡ true) (λ outside. (reading_within reading ≡ false) × (outside.place ≡ 0)) }
-        ensures months { OnOk result (months_of self.new ≡ altered k (with_readings quarter (reading ∷ [])) (months_of self.old)) }
-        ensures refused { OnErr result (self.new ≡ self.old) }
-        ensures before { before_of self.new ≡ before_of self.old }
-        ensures capacity { capacity_of self.new ≡ capacity_of self.old }
+        ensures { Posts (reading_within reading) k (with_readings quarter (reading ∷ [])) self.old result self.new }
     {
         let posted = Quarter::try_from(reading)?;
         let days = self.days_of(k);
@@ -93,7 +89,7 @@ impl Store<'_> {
         Ok(())
     }
 
-    // A day's 96 readings, both places from 0; none is posted where one is outside its limits or
+    // A day's 96 readings, both places from 0; all are refused where one is outside its limits or
     // there are not 96.
     pub fn put_day(
         &mut self,
@@ -101,11 +97,7 @@ impl Store<'_> {
         day: usize,
         readings: &[Reading],
     ) -> Result<(), OutsideLimit>
-        ensures result { MatchResult result (λ _. day_fault readings.now ≡ None) (λ outside. day_fault readings.now ≡ Some outside.place) }
-        ensures months { OnOk result (months_of self.new ≡ altered k (with_readings (96 * day) readings.now) (months_of self.old)) }
-        ensures refused { OnErr result (self.new ≡ self.old) }
-        ensures before { before_of self.new ≡ before_of self.old }
-        ensures capacity { capacity_of self.new ≡ capacity_of self.old }
+        ensures { MatchResult result (λ _. (day_fault readings.now ≡ None) × Alters k (with_readings (96 * day) readings.now) self.old self.new) (λ outside. (day_fault readings.now ≡ Some outside.place) × (self.new ≡ self.old)) }
     {
         day::check(readings)?;
         let days = self.days_of(k);
@@ -118,13 +110,9 @@ impl Store<'_> {
         Ok(())
     }
 
-    // The pool price of an hour, both places from 0, which may be outside its limit.
+    // The pool price of an hour, both places from 0; refused outside its limit.
     pub fn put_price(&mut self, k: usize, hour: usize, price: u32) -> Result<(), OutsideLimit>
-        ensures result { MatchResult result (λ _. price_within price ≡ true) (λ outside. (price_within price ≡ false) × (outside.place ≡ 0)) }
-        ensures months { OnOk result (months_of self.new ≡ altered k (with_price hour price) (months_of self.old)) }
-        ensures refused { OnErr result (self.new ≡ self.old) }
-        ensures before { before_of self.new ≡ before_of self.old }
-        ensures capacity { capacity_of self.new ≡ capacity_of self.old }
+        ensures { Posts (price_within price) k (with_price hour price) self.old result self.new }
     {
         if price > MOST_PRICE {
             return Err(OutsideLimit { place: 0 });
@@ -135,13 +123,10 @@ impl Store<'_> {
         Ok(())
     }
 
-    // The scheduled kW of an hour, both places from 0, which may be outside its limit.
+    // The scheduled kW of an hour, both places from 0; refused outside its limit. It differs from a
+    // price in its limit and in the field written, so that one function for both is no plainer.
     pub fn put_scheduled(&mut self, k: usize, hour: usize, kw: u32) -> Result<(), OutsideLimit>
-        ensures result { MatchResult result (λ _. scheduled_within kw ≡ true) (λ outside. (scheduled_within kw ≡ false) × (outside.place ≡ 0)) }
-        ensures months { OnOk result (months_of self.new ≡ altered k (with_scheduled hour kw) (months_of self.old)) }
-        ensures refused { OnErr result (self.new ≡ self.old) }
-        ensures before { before_of self.new ≡ before_of self.old }
-        ensures capacity { capacity_of self.new ≡ capacity_of self.old }
+        ensures { Posts (scheduled_within kw) k (with_scheduled hour kw) self.old result self.new }
     {
         if kw > MOST_DEMAND {
             return Err(OutsideLimit { place: 0 });

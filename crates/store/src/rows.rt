@@ -22,7 +22,7 @@ pub(crate) fn blank_rows() -> [HourRow; MONTH_HOURS]
     }; MONTH_HOURS]
 }
 
-// The kW of the four quarters of hour `h`.
+// The kW of the four quarters of hour `h`. Four terms are no plainer as a sum over a part.
 fn energy(quarters: &[Quarter], h: usize) -> u32
     requires { 4 * h + 4 ≤ length quarters.now }
     ensures summed { result ≡ (hour_row (on_file quarters.now []) h).energy }
@@ -43,6 +43,7 @@ pub(crate) fn fill_rows(rows: &mut [HourRow], quarters: &[Quarter], hours: &[Hou
     ensures filled { take (length hours.now) rows.new ≡ map (hour_row (on_file quarters.now hours.now)) (range_with_len 0 (length hours.now)) }
     ensures within { RowsWithin rows.new }
 {
+    // by index: a proof does not know what is written through `iter_mut`
     for (h, hour) in hours.iter().enumerate() {
         rows[h] = HourRow {
             energy: energy(quarters, h),

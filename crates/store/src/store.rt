@@ -29,7 +29,8 @@ pub(crate) const DAY_QUARTERS: usize = 96;
 pub(crate) const DAY_HOURS: usize = 24;
 
 // The months started in the lent memory, with the peaks of the months before them. The months have
-// records, and room in the memory, and the peak kept for each is the highest kW of its readings.
+// records, and room in the memory, and the peak kept for each is the highest kW of its readings. A
+// book has no heap, so the records stand in the room of the most months.
 #[derive(Drop)]
 pub struct Store<'a> {
     pub(crate) memory: Memory<'a>,

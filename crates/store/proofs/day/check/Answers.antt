@@ -18,10 +18,12 @@ pub returns-in-None : goal.returns-in-None
 returns-in-None c =
     let readings = c.args.readings.now in
     let found = position_from_yields_List (λ reading. not (reading_within reading)) _ _ c.position.result c.position.ensures.ran (YieldsList-from_slice readings cc) (λ x b q k. search (rules, tests)) in
-    all_within _ c.if-readings-ne-DAY_QUARTERS.false (rw c.in-None.is at (position_fails reading_within readings c.position.result found))
+    let many = c.if-readings-ne-DAY_QUARTERS.false in
+    let good = rw c.in-None.is at (position_fails reading_within readings c.position.result found) in
+    record { fault = all_within _ many good; good = (many, good) }
 
-pub returns-in-Some : goal.returns-in-Some
-returns-in-Some c =
+pub returns-in-Some-clause-fault : goal.returns-in-Some-clause-fault
+returns-in-Some-clause-fault c =
     let readings = c.args.readings.now in
     let found = position_from_yields_List (λ reading. not (reading_within reading)) _ _ c.position.result c.position.ensures.ran (YieldsList-from_slice readings cc) (λ x b q k. search (rules, tests)) in
     let first = rw c.in-Some.is at (position_fails reading_within readings c.position.result found) in

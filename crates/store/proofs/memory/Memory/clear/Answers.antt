@@ -1,9 +1,10 @@
 use Rattle.std.proofs.Common.{◌≡◌, ℕ, ◌+◌, ◌-◌, ◌*◌, ◌≤◌, List, map, length, take, drop, replicate, ap, ◌∙◌, arith}
 use borrow.Rule.Slice.PartMut.{put_mid}
+use lib.LanesLaws.{map-replicate}
 use lib.Seq.{sets}
 use Rattle.std.proofs.lemmas.List.{length-drop, length-replicate, length-take}
 use Rattle.store.specs.Records.{hour_of, reading_of}
-use Rattle.store.proofs.Stretches.{map_put_mid, map-replicate, same_length}
+use Rattle.store.proofs.Stretches.{map_put_mid, same_length}
 use Rattle.store.proofs.memory.Memory.clear.Goals as goal
 
 -- a part of n places from a on, filled with one value

@@ -15,8 +15,8 @@ written : (s : Store) (k at : ℕ) (posted : Quarter) (reading : Reading) → re
 written s k at posted reading on_file =
     map-set reading_of s.memory.quarters.now (2976 * k + at) posted ∙ ap (set (readings_in s) (2976 * k + at)) on_file
 
-pub invariant_of-self-after-reading-peak : goal.invariant_of-self-after-reading-peak
-invariant_of-self-after-reading-peak c =
+pub invariant_of-self-after-reading-peak-clause-peaks : goal.invariant_of-self-after-reading-peak-clause-peaks
+invariant_of-self-after-reading-peak-clause-peaks c =
     let store = c.args.self.now in
     let k = c.args.k in
     let at = c.args.quarter in
@@ -39,13 +39,7 @@ invariant_of-self-after-reading-peak c =
       | else-reading-peak+else-kw-peak w ↦ w.peak-is ∙ w.peak.ensures.counted ∙ ap (peak_in quarters k) started.1
     ] in
     let same_days = ap (λ m. m.days) (get_or_default store.records (24 + k) c.index-self-k-then-quarter-days.result first_record (omega arith)) in
-    record {
-      recorded = rw length-set store.recorded;
-      few = store.few;
-      quartered = rw length-set store.quartered;
-      houred = store.houred;
-      peaks = peaks_kept store k at (Some c.args.reading ∷ []) (omega arith) quarters (written store k at posted c.args.reading on_file) _ (omega arith) (rw same_days own) store.started (λ j h other. h);
-    }
+    peaks_kept store k at (Some c.args.reading ∷ []) (omega arith) quarters (written store k at posted c.args.reading on_file) _ (omega arith) (rw same_days own) store.started (λ j h other. h)
 
 pub returns-after-reading-peak : goal.returns-after-reading-peak
 unfolding capacity_of
@@ -57,21 +51,18 @@ returns-after-reading-peak c =
     let started = c.days_of-days.ensures.there (omega arith) in
     let below : at < 96 * (record_at store k).days = omega (arith, started.1) in
     let few = (record_at store k).length.1 in
-    let same = get_or_default store.records (24 + k) c.index-self-k-then-quarter-days.result first_record (omega arith) in
-    record {
-      result = c.in_ok-posted.ensures.0;
-      months = months_with_readings store k at (Some c.args.reading ∷ []) (omega arith) _ (written store k at posted c.args.reading c.in_ok-posted.ensures.1) _ _ (c.args.reading ∷ []) started.0 refl (omega arith) (ap (λ m. m.days) same) (ap (λ m. m.state) same) refl refl refl refl;
-      refused = tt;
-      before = before_kept store _ k _ (omega arith) refl;
-      capacity = simp length-set;
-    }
+    let same = get_or_default store.records (24 + k) c.index-self-k-then-quarter-days.result first_record (omega arith) in (
+      c.in_ok-posted.ensures.0,
+      record {
+        months = months_with_readings store k at (Some c.args.reading ∷ []) (omega arith) _ (written store k at posted c.args.reading c.in_ok-posted.ensures.1) _ _ (c.args.reading ∷ []) started.0 refl (omega arith) (ap (λ m. m.days) same) (ap (λ m. m.state) same) refl refl refl refl;
+        before = before_kept store _ k _ (omega arith) refl;
+        capacity = simp length-set;
+      },
+    )
 
 pub returns-else-quarter-days : goal.returns-else-quarter-days
-returns-else-quarter-days c =
-    record {
-      result = c.in_ok-posted.ensures.0;
-      months = sym (readings_past c.args.self.now c.args.k c.args.quarter (c.args.reading ∷ []) (omega arith));
-      refused = tt;
-      before = refl;
-      capacity = refl;
-    }
+returns-else-quarter-days c = (c.in_ok-posted.ensures.0, readings_past c.args.self.now c.args.k c.args.quarter (c.args.reading ∷ []) (omega arith))
+
+pub invariant_of-self-after-reading-peak-clause-quartered : goal.invariant_of-self-after-reading-peak-clause-quartered
+invariant_of-self-after-reading-peak-clause-quartered c =
+    rw (length-set c.args.self.now.memory.quarters.now (2976 * c.args.k + c.args.quarter) c.in_ok-posted.posted) c.args.self.now.quartered

@@ -1,32 +1,16 @@
-use Rattle.std.proofs.Common.{◌*◌, ◌<◌, sym, refl, arith}
-use Rattle.std.proofs.lemmas.List.{length-set}
+use Rattle.std.proofs.Common.{◌*◌, ◌<◌, refl, arith}
 use Rattle.std.proofs.lemmas.Bool.{le-leb}
 use Rattle.store.specs.Months.{with_scheduled}
-use Rattle.store.specs.Stores.{before_of, capacity_of}
-use Rattle.store.proofs.Posted.{hour_past, months_with_scheduled, record_at}
+use Rattle.store.proofs.Posted.{hour_past, alters_scheduled, record_at}
 use Rattle.store.proofs.store.Store.put_scheduled.Goals as goal
 
 pub returns-then-hour-days_of : goal.returns-then-hour-days_of
-unfolding before_of capacity_of
 returns-then-hour-days_of c =
     let store = c.args.self.now in
     let within = le-leb c.args.kw 1000000 (omega arith) in
     let started = c.days_of.ensures.there (omega arith) in
     let below : c.args.hour < 24 * (record_at store c.args.k).days = omega (arith, started.1) in
-    record {
-      result = within;
-      months = months_with_scheduled store _ c.args.k c.args.hour started.0 below c.args.kw _ c.index-self-k.result refl refl refl refl refl refl;
-      refused = tt;
-      before = refl;
-      capacity = simp length-set;
-    }
+    (within, alters_scheduled store _ c.args.k c.args.hour started.0 below c.args.kw _ c.index-self-k.result refl refl refl refl refl refl)
 
 pub returns-else-hour-days_of : goal.returns-else-hour-days_of
-returns-else-hour-days_of c =
-    record {
-      result = le-leb c.args.kw 1000000 (omega arith);
-      months = sym (hour_past c.args.self.now c.args.k c.args.hour (with_scheduled c.args.hour c.args.kw) _ (omega arith) refl);
-      refused = tt;
-      before = refl;
-      capacity = refl;
-    }
+returns-else-hour-days_of c = (le-leb c.args.kw 1000000 (omega arith), hour_past c.args.self.now c.args.k c.args.hour (with_scheduled c.args.hour c.args.kw) _ (omega arith) refl)

@@ -1,10 +1,9 @@
-use Rattle.std.proofs.Common.{◌+◌, sym, refl, ap, arith}
+use Rattle.std.proofs.Common.{◌+◌, refl, ap, arith}
 use Rattle.std.proofs.lemmas.List.{get_or_default}
 use Rattle.store.specs.Months.{with_state}
 use Rattle.store.specs.Records.{first_record}
 use Rattle.store.specs.Stores.{capacity_of}
-use Rattle.store.proofs.Posted.{before_kept, months_with_state}
-use Rattle.store.proofs.Stretches.{altered_past}
+use Rattle.store.proofs.Posted.{before_kept, month_past, months_with_state}
 use Rattle.store.proofs.store.Store.set_state.Goals as goal
 
 pub returns-then-k-self : goal.returns-then-k-self
@@ -20,5 +19,4 @@ returns-then-k-self c =
     }
 
 pub returns-else-k-self : goal.returns-else-k-self
-returns-else-k-self c =
-    record { months = sym (altered_past c.args.self.now c.args.k (with_state c.args.state) c.if-k-self.false); before = refl; capacity = refl }
+returns-else-k-self c = month_past c.args.self.now c.args.k (with_state c.args.state) c.if-k-self.false
