@@ -1,70 +1,30 @@
 // One call of a run.
-ghost use Rattle.std.specs.Prelude.{◌≡◌};
+ghost use Rattle.std.specs.Prelude.{◌≡◌, MatchResult};
 ghost use Rattle.book.specs.Books.{view};
 ghost use Rattle.book.specs.Steps.{answer, step};
-ghost use Rattle.audit.specs.Requests.{call_of, shown, told};
-ghost use Rattle.audit.specs.declared.request.Answer.{Answer as Told};
-ghost use Rattle.audit.specs.declared.request.Answer.TheVariants.{Done, IsDue, Started, Sum, Written};
+ghost use Rattle.audit.specs.Requests.{call_of, shown};
+ghost use Rattle.audit.specs.declared.request.Answer.TheVariants.{Done, Refused};
 
 use crate::request::{Answer, Request};
 use book::Book;
 use tariff::{Refusal, Schedule};
 
-// What an accepted call replies, as an answer.
-trait Reply {
-    ghost shows: { Self → Told };
-
-    fn into_answer(self) -> Answer
-        ensures { result ≡ shows self };
-}
-
-impl Reply for () {
-    ghost shows = { λ _. Done };
-
-    fn into_answer(self) -> Answer {
-        Answer::Done
-    }
-}
-
-impl Reply for u32 {
-    ghost shows = { Started };
-
-    fn into_answer(self) -> Answer {
-        Answer::Started(self)
-    }
-}
-
-impl Reply for usize {
-    ghost shows = { Written };
-
-    fn into_answer(self) -> Answer {
-        Answer::Written(self)
-    }
-}
-
-impl Reply for bool {
-    ghost shows = { IsDue };
-
-    fn into_answer(self) -> Answer {
-        Answer::IsDue(self)
-    }
-}
-
-impl Reply for i64 {
-    ghost shows = { Sum };
-
-    fn into_answer(self) -> Answer {
-        Answer::Sum(self)
-    }
-}
-
-fn answered<T: Reply>(outcome: Result<T, Refusal>) -> Answer
-    ensures { result ≡ told T.shows outcome }
+// What a call answered; an accepted one by its kind of reply.
+fn answered<T, F: FnOnce(T) -> Answer>(outcome: Result<T, Refusal>, as_answer: F) -> Answer
+    requires { F.IsAlwaysCallable as_answer }
+    ensures { MatchResult outcome (λ reply. F.post as_answer reply result) (λ refusal. result ≡ Refused refusal) }
 {
     match outcome {
-        Ok(reply) => reply.into_answer(),
+        Ok(reply) => as_answer(reply),
         Err(refusal) => Answer::Refused(refusal),
     }
+}
+
+// Of a call that replies nothing.
+fn done(_reply: ()) -> Answer
+    ensures { result ≡ Done }
+{
+    Answer::Done
 }
 
 pub(crate) fn perform<S: Schedule>(
@@ -81,25 +41,31 @@ pub(crate) fn perform<S: Schedule>(
             contract,
             substation,
             carried,
-        } => answered(book.open(code, contract, substation, carried)),
-        Request::Start { days } => answered(book.start(days)),
+        } => answered(book.open(code, contract, substation, carried), done),
+        Request::Start { days } => answered(book.start(days), Answer::Started),
         Request::PostReading {
             month,
             quarter,
             reading,
-        } => answered(book.post_reading(month, quarter, reading)),
+        } => answered(book.post_reading(month, quarter, reading), done),
         Request::PostDay {
             month,
             day,
             code,
             readings,
-        } => answered(book.post_day(month, day, code, readings)),
-        Request::PostPrice { month, hour, price } => answered(book.post_price(month, hour, price)),
-        Request::PostSchedule { month, hour, kw } => answered(book.post_schedule(month, hour, kw)),
-        Request::Bill { month } => answered(book.bill(month, schedule)),
-        Request::TrueUp { month } => answered(book.true_up(month, schedule)),
-        Request::Finalise { month } => answered(book.finalise(month, schedule)),
-        Request::Due { month } => answered(book.due(month, schedule)),
-        Request::Total { month, line } => answered(book.total(month, line)),
+        } => answered(book.post_day(month, day, code, readings), done),
+        Request::PostPrice { month, hour, price } => answered(
+            book.post_price(month, hour, price),
+            done,
+        ),
+        Request::PostSchedule { month, hour, kw } => answered(
+            book.post_schedule(month, hour, kw),
+            done,
+        ),
+        Request::Bill { month } => answered(book.bill(month, schedule), Answer::Written),
+        Request::TrueUp { month } => answered(book.true_up(month, schedule), Answer::Written),
+        Request::Finalise { month } => answered(book.finalise(month, schedule), done),
+        Request::Due { month } => answered(book.due(month, schedule), Answer::IsDue),
+        Request::Total { month, line } => answered(book.total(month, line), Answer::Sum),
     }
 }
