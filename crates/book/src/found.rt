@@ -2,7 +2,8 @@
 use crate::point::Point;
 use store::State;
 
-// A month of an opened book, with its place from 0 and its number from 1, as entries have it.
+// A month of an opened book, with its place from 0 and its number from 1, as entries have it. The
+// calls keep the month as their caller named it beside this, since every refusal says it.
 #[derive(Clone, Copy)]
 pub(crate) struct Found {
     pub(crate) point: Point,

@@ -86,7 +86,8 @@ impl Book<'_> {
             .map_err(|outside| outside_limit(month, outside))
     }
 
-    // The scheduled kW of an hour, from 0.
+    // The scheduled kW of an hour, from 0. Price and scheduled kW are two posts with a row each in the
+    // table; a function over the figure would hide which.
     pub fn post_schedule(&mut self, month: u32, hour: u32, kw: u32) -> Result<(), Refusal>
         ensures { (meaning : Meaning) → Performs meaning (posts month (of_scheduled hour kw)) self.old result self.new }
     {

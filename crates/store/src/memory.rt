@@ -41,7 +41,8 @@ impl Memory<'_> {
         day::write(&mut self.quarters[first..first + readings.len()], readings);
     }
 
-    // Marks the quarters and the hours of the month at a place, of so many days, as never posted.
+    // Marks the quarters and the hours of the month at a place, of so many days, as never posted. They
+    // are two memories with two sizes: a function of both would take as many lines.
     pub(crate) fn clear(&mut self, k: usize, days: usize)
         requires quarters_in_bounds { 2976 * k + 96 * days ≤ length self.old.quarters.now }
         requires hours_in_bounds { 744 * k + 24 * days ≤ length self.old.hours.now }

@@ -1,5 +1,6 @@
 // The records of the lent memory. Their limits are in their types, so that whatever stands in
-// the memory can be priced.
+// the memory can be priced. A mark stands for none, since each record has 8 bytes: a book of two
+// months with its entries has to fit 64 KiB, and with an `Option` in each quarter it would not.
 ghost use Rattle.std.specs.Prelude.{◌≤◌};
 ghost use Rattle.tariff.specs.Limits.{most_demand};
 

@@ -22,7 +22,7 @@ impl Store<'_> {
         self.months().get(k).copied()
     }
 
-    // The days of the month at a place; 0 past the last month.
+    // The days of the month at a place; 0 past the last month, which has no quarter and no hour.
     pub(crate) fn days_of(&self, k: usize) -> usize
         ensures months { result ≡ (slice_index_or (months_of self.now) k no_month).days }
         ensures within { result ≤ 31 }

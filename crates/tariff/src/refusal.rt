@@ -6,14 +6,16 @@ use crate::line::Line;
 use std::error::Error;
 use std::fmt;
 
-// A line that a schedule cannot price, and the rider that carried it past its limit (0 for none).
+// A line that a schedule cannot price, and the rider that carried it past its limit. No rider is
+// number 0, since the four numbers of a refusal have 0 there.
 #[derive(Clone, Copy, PartialEq, Eq, Debug)]
 pub struct Fault {
     pub line: Line,
     pub rider: u16,
 }
 
-// Why a call was refused. `month` is the month that the call named, 0 for none.
+// Why a call was refused. `month` is the month that the call named; none is 0, as in the four
+// numbers below.
 #[derive(Clone, Copy, PartialEq, Eq, Debug)]
 pub enum Refusal {
     // a book that was not opened yet

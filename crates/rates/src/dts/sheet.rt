@@ -43,6 +43,7 @@ pub const GTS_2007: DtsDraft = DtsDraft {
 
 pub type DtsSheet = Sealed<DtsDraft>;
 
+// Each published sheet has a name of its own; one function over the names would be no plainer.
 impl DtsDraft {
     pub fn dts_2007() -> DtsDraft
         ensures { result ≡ dts_2007 }

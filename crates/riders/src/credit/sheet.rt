@@ -16,7 +16,8 @@ pub struct CreditDraft {
     pub fixed: i64,
 }
 
-// The published figures. The number is the buyer's to give; 0 is none.
+// The published figures. The number is the buyer's to give: 0, like any figure of a draft, is a
+// number that may lie outside its limits.
 pub const PSC_2009: CreditDraft = CreditDraft {
     number: 0,
     first: 217_500,
