@@ -1,7 +1,5 @@
-use Rattle.std.proofs.Common.{subst}
-use Rattle.std.specs.Result.{MatchResult}
-use Rattle.tariff.specs.Sheets.{FiguresWithin, RefusedFigure}
+use Rattle.tariff.proofs.Figures.{checked}
 use Rattle.rates.proofs.dts.sheet.DtsDraftDraft.check.Goals as goal
 
 pub returns : goal.returns
-returns c = subst (λ figures. MatchResult c.check.result (λ _. FiguresWithin figures) (RefusedFigure figures)) c.figures.ensures c.check.ensures
+returns c = checked c.check.result c.figures.ensures c.check.ensures
