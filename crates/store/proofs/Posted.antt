@@ -51,10 +51,6 @@ pub spared_month : (s t : Store) (k : ℕ) → Spared s t k → month_of t k ≡
 spared_month s t k same =
     month_parts t k _ _ _ _ same.days same.state same.readings same.hours ∙ sym (month_parts s k _ _ _ _ refl refl refl refl)
 
-pub no_days : no_month.days ≡ 0
-unfolding no_month fresh
-no_days = refl
-
 -- nothing is written past the last month, and past a month's last quarter and hour
 unaltered : (s : Store) (k : ℕ) (alter : Month → Month) → altered k alter (months_of s) ≡ months_of s → Alters k alter s s
 unaltered s k alter same = record { months = sym same; before = refl; capacity = refl }

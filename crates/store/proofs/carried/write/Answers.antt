@@ -1,7 +1,7 @@
-use Rattle.std.proofs.Common.{◌≡◌, ◌-◌, ◌≤◌, leb, length, map, get_or, ap, ◌∙◌, inl, inr, arith, rules}
+use Rattle.std.proofs.Common.{◌≡◌, ◌-◌, ◌≤◌, leb, length, map, get_or, ◌∙◌, arith, rules}
 use Rattle.std.proofs.lemmas.List.FromFn.{fill_by_all}
-use Rattle.std.proofs.lemmas.List.{get_or-map, get_or-set_other, get_or-set_same, length-map}
-use Rattle.std.proofs.lemmas.Bool.{and_parts, cases_eq, leb-true}
+use Rattle.std.proofs.lemmas.List.{get_or-map, length-map}
+use Rattle.std.proofs.lemmas.Bool.{and_parts, leb-true}
 use Rattle.store.specs.Months.{aged, top}
 use Rattle.store.specs.Records.{first_record}
 use Rattle.store.proofs.Peaks.{le_top}
@@ -13,15 +13,6 @@ invariant_of-records c =
     let most : top carried ≤ 1000000 = leb-true (top carried) 1000000 (and_parts (leb (length carried) 24) (leb (top carried) 1000000) c.requires.carriable).1 in
     let peak : c.unwrap_or.result ≡ get_or carried (23 - c.loop-i.i) 0 = search rules in
     λ d. (omega (arith, c.loop-i.auto.records), ((get_or c.loop-i.records c.loop-i.i d).length, (omega (arith, peak, le_top carried), tt)))
-
-pub loop-i-preserved : goal.loop-i-preserved
-loop-i-preserved c =
-    let i = c.loop-i.i in
-    let peak : c.unwrap_or.result ≡ get_or c.args.carried.now (23 - i) 0 = search rules in
-    λ j h. elim (cases_eq j i) [
-      | inl same ↦ rw same (ap (λ m. m.peak) (get_or-set_same c.loop-i.records i _ first_record (omega (arith, c.loop-i.auto.records))) ∙ peak)
-      | inr other ↦ ap (λ m. m.peak) (get_or-set_other c.loop-i.records i j _ first_record other) ∙ c.loop-i.invariant j (omega (arith, other))
-    ]
 
 pub returns : goal.returns
 unfolding aged

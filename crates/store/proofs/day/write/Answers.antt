@@ -1,5 +1,5 @@
 use Rattle.std.proofs.Common.{◌≡◌, ◌+◌, ◌<◌, map, length, take, Some, ap, ◌∙◌, arith}
-use Rattle.std.proofs.lemmas.List.{map_more, map_push, take_all, take_more_set}
+use Rattle.std.proofs.lemmas.List.{map_more, map_push, take_more_set}
 use Rattle.std.proofs.lemmas.List.Sums.{prefix_len_passes}
 use Rattle.std.proofs.lemmas.Bool.{both_ways}
 use Rattle.store.specs.Months.{reading_within}
@@ -25,9 +25,3 @@ loop-i-preserved c =
           cc
       | in_default w ↦ elim (both_ways _ w.in_default.ensures.0 (prefix_len_passes reading_within readings i none (omega (arith, c.requires.readings_len, c.loop-i-test.true)))) [ ]
     ]
-
-pub returns : goal.returns
-returns c =
-    let all = c.loop-i-test.false in
-    let inv : map reading_of (take c.loop-i.i c.loop-i.quarters) ≡ map Some (take c.loop-i.i c.args.readings.now) = c.loop-i.invariant in
-    rw (take_all c.loop-i.i c.loop-i.quarters (omega (arith, c.loop-i.auto.quarters, c.requires.quarters_len)), take_all c.loop-i.i c.args.readings.now all) at inv

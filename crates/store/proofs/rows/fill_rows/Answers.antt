@@ -1,6 +1,5 @@
 use Rattle.std.proofs.Common.{◌≡◌, ℕ, ◌<◌, ◌≤◌, leb, List, [], map, length, get_or, take, Some, None, Option, unwrap_or, sym, refl, ap, ◌∙◌, arith}
 use Rattle.std.proofs.lemmas.List.FromFn.{fill_by_all}
-use Rattle.std.proofs.lemmas.List.Edits.{fill_by_more}
 use Rattle.std.proofs.lemmas.List.{get_or-map, get_or-take, length-take-le}
 use Rattle.std.proofs.lemmas.Bool.{cond_both, leb-true}
 use Rattle.tariff.specs.Limits.{HourWithin, no_hour}
@@ -10,7 +9,6 @@ use Rattle.store.specs.Records.{hour_of}
 use Rattle.store.specs.Rows.{on_file}
 use Rattle.store.specs.declared.quarter.Hour.{Hour}
 use Rattle.store.specs.declared.quarter.Quarter.{Quarter}
-use Rattle.store.proofs.Each.{each_set}
 use Rattle.store.proofs.rows.fill_rows.Goals as goal
 
 price_or_0 : (price : Option ℕ) → unwrap_or price 0 ≡ price_of price
@@ -32,22 +30,6 @@ module _ (quarters : List Quarter) (hours : List Hour) (h : ℕ) (hour : Hour) (
 
   row_within : row.energy ≤ 4000000 → HourWithin row
   row_within limited = (limited, rw (price ∙ price_or_0 (hour_of hour).price) (price_limited hour), rw scheduled hour.within)
-
-pub loop-h-init : goal.loop-h-init
-loop-h-init c = (λ k none. absurd (omega arith), c.requires.within)
-
-pub loop-h-preserved : goal.loop-h-preserved
-loop-h-preserved c =
-    let hours = c.args.hours.now in
-    let h = c.loop-h.h in
-    let row : HourRow = record { energy = c.energy.result; price = c.unwrap_or.result; scheduled = c.index-hours-h.result.scheduled } in
-    let price = c.unwrap_or.ensures ∙ ap (λ price. unwrap_or price 0) c.price.ensures in
-    let here : h < length c.loop-h.rows = omega (arith, c.requires.room, c.loop-h.auto.rows, c.loop-h-test.true) in
-    let is : row ≡ hour_row (on_file c.args.quarters.now hours) h = row_is _ hours h c.index-hours-h.result row c.loop-h-test.true c.index-hours-h.is c.energy.ensures.summed price refl in
-    let within : HourWithin row = row_within c.args.quarters.now hours h c.index-hours-h.result row c.loop-h-test.true c.index-hours-h.is c.energy.ensures.summed price refl c.energy.ensures.within in (
-      λ k below. rw is (fill_by_more (hour_row (on_file c.args.quarters.now hours)) c.loop-h.rows h no_hour here c.loop-h.invariant.0 k below),
-      each_set HourWithin no_hour c.loop-h.rows h row within c.loop-h.invariant.1,
-    )
 
 pub returns : goal.returns
 returns c =
