@@ -35,7 +35,7 @@ is_fault (Err fault) = true
 
 -- the fault of a row that holds only where there is one
 abbrev pub fault_in : Outcome → Fault
-fault_in (Ok cents) = record { line = SystemDemand; rider = 0 }
+fault_in (Ok cents) = record { line = SystemDemand; rider = None }
 fault_in (Err fault) = fault
 
 abbrev pub is_blank : View → Bool

@@ -1,5 +1,5 @@
 // A schedule that prices no month.
-ghost use Rattle.std.specs.Prelude.{Err};
+ghost use Rattle.std.specs.Prelude.{Err, Some};
 ghost use Rattle.tariff.specs.declared.line.Line.TheVariants.{Interconnection};
 ghost use Rattle.std.proofs.Common.{rules};
 
@@ -9,14 +9,14 @@ use tariff::{Amounts, Facts, Fault, Hours, Line, Schedule};
 pub(crate) struct Faulty;
 
 impl Schedule for Faulty {
-    ghost meaning = { λ _ _ _. Err (record { line = Interconnection; rider = 77 }) };
+    ghost meaning = { λ _ _ _. Err (record { line = Interconnection; rider = Some 77 }) };
 
     ghost limited = { Prim.search rules };
 
     fn price(&self, facts: &Facts, hours: &Hours<'_>) -> Result<Amounts, Fault> {
         Err(Fault {
             line: Line::Interconnection,
-            rider: 77,
+            rider: Some(77),
         })
     }
 }

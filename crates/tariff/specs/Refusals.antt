@@ -1,5 +1,5 @@
 -- The refusal table: for each kind of refusal its number, the month that the call named, a place and a rider number.
-use Rattle.std.specs.Prelude.{ℕ, List, ◌++◌, codes, decimal}
+use Rattle.std.specs.Prelude.{ℕ, List, ◌++◌, codes, decimal, unwrap_or}
 use Rattle.tariff.specs.Lines.{number_of}
 use Rattle.tariff.specs.declared.refusal.Numbers.{Numbers}
 use Rattle.tariff.specs.declared.refusal.Refusal.{Refusal}
@@ -23,7 +23,7 @@ numbers_of (Missing month place) = four 11 month place 0
 numbers_of (MonthBilled month) = four 12 month 0 0
 numbers_of (MonthOpen month) = four 13 month 0 0
 numbers_of (EarlierMonth month place) = four 14 month place 0
-numbers_of (LinePastLimit month fault) = four 15 month (number_of fault.line) fault.rider
+numbers_of (LinePastLimit month fault) = four 15 month (number_of fault.line) (unwrap_or fault.rider 0)
 numbers_of (LedgerFull month place) = four 16 month place 0
 numbers_of (MonthDue month place) = four 17 month place 0
 numbers_of (FigureOutside place) = four 18 0 place 0

@@ -6,12 +6,11 @@ use crate::line::Line;
 use std::error::Error;
 use std::fmt;
 
-// A line that a schedule cannot price, and the rider that carried it past its limit. No rider is
-// number 0, since the four numbers of a refusal have 0 there.
+// A line that a schedule cannot price, and the rider that carried it past its limit, if it was one.
 #[derive(Clone, Copy, PartialEq, Eq, Debug)]
 pub struct Fault {
     pub line: Line,
-    pub rider: u16,
+    pub rider: Option<u16>,
 }
 
 // Why a call was refused. `month` is the month that the call named; none is 0, as in the four
@@ -56,7 +55,7 @@ pub enum Refusal {
     FigureOutside { place: u64 },
 }
 
-// The four numbers by which a refusal is known outside the program.
+// The four numbers by which a refusal is known outside the program, 0 where there is none.
 #[derive(Clone, Copy, PartialEq, Eq, Debug)]
 pub struct Numbers {
     pub number: u8,
@@ -87,7 +86,7 @@ impl Refusal {
             Refusal::LinePastLimit {
                 month,
                 fault: Fault { line, rider },
-            } => (15, month, line.number().into(), rider),
+            } => (15, month, line.number().into(), rider.unwrap_or(0)),
             Refusal::LedgerFull { month, place } => (16, month, place, 0),
             Refusal::MonthDue { month, place } => (17, month, place, 0),
             Refusal::FigureOutside { place } => (18, 0, place, 0),

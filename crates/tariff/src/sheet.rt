@@ -63,11 +63,13 @@ pub trait Draft: Copy {
     // each figure in its order with its limits
     ghost listed: { Self → List Limited };
 
-    // Refused where a figure is outside its limits, with the place of the first such, from 1.
+    // Refused where a figure is outside its limits, with the place of the first such, from 1. Each draft
+    // checks its own array: the length would else be a parameter of every type that names a sheet.
     fn check(&self) -> Result<(), Refusal>
         ensures { MatchResult result (λ _. FiguresWithin (listed self.now)) (RefusedFigure (listed self.now)) };
 
-    // The draft as it was, with the reason why it was not sealed.
+    // What comes back where a draft is not sealed: the draft as it was, with the reason. A method of its
+    // own, so that an impl which says it otherwise is held to this.
     fn unsealed(self, refusal: Refusal) -> Unsealed<Self>
         ensures { (result.draft ≡ self) × (result.refusal ≡ refusal) }
     {
