@@ -1,5 +1,5 @@
 // A day's readings.
-ghost use Rattle.std.specs.Prelude.{◌≡◌, map, length, None, Some, MatchResult};
+ghost use Rattle.std.specs.Prelude.{◌≡◌, ◌<◌, map, length, None, Some, MatchOption, MatchResult};
 ghost use Rattle.std.specs.List.{prefix_len};
 ghost use Rattle.store.specs.Months.{day_fault, reading_within};
 ghost use Rattle.store.specs.Records.{reading_of};
@@ -17,6 +17,13 @@ pub(crate) struct DayReadings<'a> {
     ghost within: { prefix_len reading_within readings.now ≡ length readings.now },
 }
 
+// The place of the first reading outside its limits.
+fn first_outside(readings: &[Reading]) -> Option<usize>
+    ensures { MatchOption result (prefix_len reading_within readings.now ≡ length readings.now) (λ place. (prefix_len reading_within readings.now ≡ place) × (place < length readings.now)) }
+{
+    readings.iter().position(|reading| !reading.within())
+}
+
 impl<'a> TryFrom<&'a [Reading]> for DayReadings<'a> {
     type Error = OutsideLimit;
 
@@ -29,7 +36,7 @@ impl<'a> TryFrom<&'a [Reading]> for DayReadings<'a> {
                 place: DAY_QUARTERS,
             });
         }
-        match readings.iter().position(|reading| !reading.within()) {
+        match first_outside(readings) {
             Some(place) => Err(OutsideLimit { place }),
             None => Ok(DayReadings { readings }),
         }
