@@ -49,7 +49,7 @@ impl DayReadings<'_> {
         requires { length quarters.old ≡ 96 }
         ensures { map reading_of quarters.new ≡ map Some self.now.readings.now }
     {
-        // by index: nothing is known of what an adapter of `iter_mut` (zip, enumerate) writes; tried
+        // by index: what is written through an adapter of `iter_mut` has no name in an invariant; tried
         for (i, reading) in self.readings.iter().enumerate() {
             let Ok(quarter) = Quarter::try_from(*reading) else {
                 unreachable()
