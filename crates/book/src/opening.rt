@@ -44,9 +44,7 @@ impl<'a> Book<'a> {
         if contract < 1 || substation < contract || MOST_DEMAND < substation {
             return Err(Refusal::OpeningOutside);
         }
-        if self.store.carry(carried).is_err() {
-            return Err(Refusal::OpeningOutside);
-        }
+        self.store.carry(carried)?;
         self.point = Some(Point {
             code,
             contract,

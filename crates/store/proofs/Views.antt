@@ -1,23 +1,22 @@
 -- The months of a store, one by one.
-use Rattle.std.proofs.Common.{◌≡◌, ℕ, ◌+◌, ◌-◌, ◌<◌, ◌≤◌, min, ltb, Bool, List, ◌++◌, map, length, get_or, take, drop, Some, None, Option, sym, refl, ap, ◌∙◌, arith}
+use Rattle.std.proofs.Common.{◌≡◌, ℕ, ◌+◌, ◌-◌, ◌*◌, ◌<◌, ◌≤◌, min, ltb, Bool, List, [], ◌++◌, map, length, get_or, take, drop, Some, None, Option, sym, refl, ap, ◌∙◌, inl, inr, arith}
 use native.Mathlib.Nat.{add-sub_cancel_left}
+use Rattle.std.proofs.Math.Nat.{mul-zero}
 use mathlib.Core.List.{map-append, map-map}
 use Rattle.std.specs.Prelude.{IfSome, MatchOption, is_some}
 use Rattle.std.specs.Borrow.{Bor}
 use Rattle.std.specs.Option.{option_copied}
 use Rattle.std.specs.List.{range_with_len, prefix_len}
 use Rattle.std.proofs.lemmas.List.FromFn.{fill_by_all}
-use Rattle.std.proofs.lemmas.Bool.{ltb-false, ltb-true}
+use Rattle.std.proofs.lemmas.Bool.{cases_lt, ltb-false, ltb-true}
 use Rattle.std.proofs.lemmas.List.{drop-map, length-drop, length-take, get_or-drop, get_or-take, get_or_default, get_or-map, get_or_past, length-map, take-map}
 use Rattle.store.specs.Months.{Month, earlier_high, first_short, fresh, hours_of, kw_of, no_month, peak, quarters_of, ratchet, reached, top}
 use Rattle.store.specs.Records.{first_record, hour_of, peak_in, reading_of, record_in, stretch}
 use Rattle.store.specs.Stores.{before_of, month_of, months_of}
 use Rattle.store.specs.declared.month.MonthRecord.{MonthRecord}
-use Rattle.store.specs.declared.quarter.Hour.{Hour}
-use Rattle.store.specs.declared.quarter.Quarter.{Quarter}
 use Rattle.store.specs.declared.state.State.{State}
 use Rattle.store.specs.declared.store.Store.{Store}
-use Rattle.store.proofs.Stretches.{get_or_months, length_months, length_stretch}
+use Rattle.store.proofs.Stretches.{get_or_months, length_months}
 use Rattle.store.proofs.Windows.{leading_map, part_counted, take_counted, take_two, window}
 
 module _ (store : Store) where
@@ -29,21 +28,36 @@ module _ (store : Store) where
   month_recorded k d here =
       get_or-take store.started (drop ratchet store.records) k d here ∙ get_or-drop ratchet store.records k d ∙ get_or_default store.records (ratchet + k) d first_record (omega arith)
 
-  -- the stretches of a started month are its readings and its hours
-  module _ (k : ℕ) (month : MonthRecord) (here : k < store.started) (is : month ≡ record_in store.records k) where
-    pub quarters_read : (quarters : List Quarter) → quarters ≡ stretch 2976 k (quarters_of month.days) store.memory.quarters.now → (map reading_of quarters ≡ (get_or (months_of store) k no_month).readings) × (length quarters ≡ quarters_of (get_or (months_of store) k no_month).days) × (length quarters ≤ 2976)
-    unfolding month_of
-    quarters_read quarters are =
-        let longest = (record_in store.records k).length.1 in
-        let long = length_stretch 2976 k (quarters_of (record_in store.records k).days) store.memory.quarters.now (omega arith) in
-        rw (get_or_months store k no_month here, are, is) (refl, long, omega arith)
+  -- the days of a month on file are those of its record
+  pub days_recorded : (k : ℕ) → k < store.started → (get_or (months_of store) k no_month).days ≡ (record_in store.records k).days
+  unfolding month_of
+  days_recorded k here = ap (λ m. m.days) (get_or_months store k no_month here)
 
-    pub hours_read : (hours : List Hour) → hours ≡ stretch 744 k (hours_of month.days) store.memory.hours.now → (map hour_of hours ≡ (get_or (months_of store) k no_month).hours) × (length hours ≡ hours_of (get_or (months_of store) k no_month).days) × (length hours ≤ 744)
-    unfolding month_of
-    hours_read hours are =
-        let longest = (record_in store.records k).length.1 in
-        let long = length_stretch 744 k (hours_of (record_in store.records k).days) store.memory.hours.now (omega arith) in
-        rw (get_or_months store k no_month here, are, is) (refl, long, omega arith)
+  pub no_days : (k : ℕ) → store.started ≤ k → (get_or (months_of store) k no_month).days ≡ 0
+  unfolding no_month fresh
+  no_days k past = ap (λ m. m.days) (month_past k past)
+
+  -- a part of memory with so many items a day: past the last month it is none
+  pub nothing_past : {X : Type 0} (room a_day k : ℕ) (memory : List X) → store.started ≤ k → [] ≡ stretch room k (a_day * (get_or (months_of store) k no_month).days) memory
+  unfolding stretch
+  nothing_past room a_day k memory past = rw (no_days k past, mul-zero a_day) refl
+
+  -- the stretches of a month are its readings and its hours; past the last month there is none
+  pub readings_read : (k : ℕ) → map reading_of (stretch 2976 k (quarters_of (get_or (months_of store) k no_month).days) store.memory.quarters.now) ≡ (get_or (months_of store) k no_month).readings
+  unfolding month_of no_month fresh stretch
+  readings_read k =
+      elim (cases_lt k store.started) [
+        | inl here ↦ rw (get_or_months store k no_month here) refl
+        | inr past ↦ rw (month_past k past) refl
+      ]
+
+  pub hours_read : (k : ℕ) → map hour_of (stretch 744 k (hours_of (get_or (months_of store) k no_month).days) store.memory.hours.now) ≡ (get_or (months_of store) k no_month).hours
+  unfolding month_of no_month fresh stretch
+  hours_read k =
+      elim (cases_lt k store.started) [
+        | inl here ↦ rw (get_or_months store k no_month here) refl
+        | inr past ↦ rw (month_past k past) refl
+      ]
 
   -- the first month short of a state, by the records
   pub first_short_counted : (state : State) (k : ℕ) → prefix_len (λ month. reached state month.state) (take k (take store.started (drop ratchet store.records))) ≡ first_short state (months_of store) k

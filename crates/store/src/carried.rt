@@ -20,7 +20,7 @@ pub(crate) fn write(records: &mut [MonthRecord], carried: &[u32])
     requires counted { length records.old ≡ ratchet }
     ensures { map (λ month. month.peak) records.new ≡ aged carried.now }
 {
-    // by index: a proof does not know what is written through `iter_mut`
+    // by index: what is written through an adapter of `iter_mut` has no name in an invariant; tried
     for i in 0..RATCHET {
         records[i].peak = carried.get(RATCHET - 1 - i).copied().unwrap_or(0);
     }

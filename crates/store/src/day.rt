@@ -1,5 +1,5 @@
 // A day's readings.
-ghost use Rattle.std.specs.Prelude.{◌≡◌, map, length, None, Some, MatchResult, OnOk};
+ghost use Rattle.std.specs.Prelude.{◌≡◌, ◌<◌, map, length, None, Some, MatchOption, MatchResult};
 ghost use Rattle.std.specs.List.{prefix_len};
 ghost use Rattle.store.specs.Months.{day_fault, reading_within};
 ghost use Rattle.store.specs.Records.{reading_of};
@@ -9,31 +9,51 @@ use crate::quarter::Quarter;
 use crate::reading::Reading;
 use crate::store::DAY_QUARTERS;
 
-// Refused where there are not 96 readings, or one is outside its limits.
-pub(crate) fn check(readings: &[Reading]) -> Result<(), OutsideLimit>
-    ensures fault { MatchResult result (λ _. day_fault readings.now ≡ None) (λ outside. day_fault readings.now ≡ Some outside.place) }
-    ensures good { OnOk result ((length readings.now ≡ 96) × (prefix_len reading_within readings.now ≡ length readings.now)) }
+// A day's 96 readings, each within its limits.
+#[derive(Clone, Copy)]
+pub(crate) struct DayReadings<'a> {
+    pub(crate) readings: &'a [Reading],
+    ghost counted: { length readings.now ≡ 96 },
+    ghost within: { prefix_len reading_within readings.now ≡ length readings.now },
+}
+
+// The place of the first reading outside its limits.
+fn first_outside(readings: &[Reading]) -> Option<usize>
+    ensures { MatchOption result (prefix_len reading_within readings.now ≡ length readings.now) (λ place. (prefix_len reading_within readings.now ≡ place) × (place < length readings.now)) }
 {
-    if readings.len() != DAY_QUARTERS {
-        return Err(OutsideLimit {
-            place: DAY_QUARTERS,
-        });
-    }
-    match readings.iter().position(|reading| !reading.within()) {
-        Some(place) => Err(OutsideLimit { place }),
-        None => Ok(()),
+    readings.iter().position(|reading| !reading.within())
+}
+
+impl<'a> TryFrom<&'a [Reading]> for DayReadings<'a> {
+    type Error = OutsideLimit;
+
+    // refused where there are not 96, or at the first outside its limits
+    ghost try_from_gives = { λ readings result. MatchResult result (λ day. (day.readings.now ≡ readings.now) × (day_fault readings.now ≡ None)) (λ outside. day_fault readings.now ≡ Some outside.place) };
+
+    fn try_from(readings: &'a [Reading]) -> Result<DayReadings<'a>, OutsideLimit> {
+        if readings.len() != DAY_QUARTERS {
+            return Err(OutsideLimit {
+                place: DAY_QUARTERS,
+            });
+        }
+        match first_outside(readings) {
+            Some(place) => Err(OutsideLimit { place }),
+            None => Ok(DayReadings { readings }),
+        }
     }
 }
 
-// Readings within their limits, over as many quarters.
-pub(crate) fn write(quarters: &mut [Quarter], readings: &[Reading])
-    requires quarters_len { length quarters.old ≡ length readings.now }
-    requires readings_len { prefix_len reading_within readings.now ≡ length readings.now }
-    ensures { map reading_of quarters.new ≡ map Some readings.now }
-{
-    // by index: a proof does not know what is written through `iter_mut`
-    for (i, reading) in readings.iter().enumerate() {
-        if let Ok(quarter) = Quarter::try_from(*reading) {
+impl DayReadings<'_> {
+    // The readings, over as many quarters.
+    pub(crate) fn write(&self, quarters: &mut [Quarter])
+        requires { length quarters.old ≡ 96 }
+        ensures { map reading_of quarters.new ≡ map Some self.now.readings.now }
+    {
+        // by index: what is written through an adapter of `iter_mut` has no name in an invariant; tried
+        for (i, reading) in self.readings.iter().enumerate() {
+            let Ok(quarter) = Quarter::try_from(*reading) else {
+                unreachable()
+            };
             quarters[i] = quarter;
         }
     }

@@ -1,10 +1,10 @@
 // What a store tells of the months on file.
-ghost use Rattle.std.specs.Prelude.{◌≡◌, ◌<◌, ◌≤◌, map, min, length, get_or, is_none, IfSome, MatchOption, slice_index_or};
+ghost use Rattle.std.specs.Prelude.{◌≡◌, ◌*◌, ◌<◌, ◌≤◌, map, min, length, get_or, is_none, IfSome, MatchOption, slice_index_or};
 ghost use Rattle.std.specs.List.{position};
 ghost use Rattle.tariff.specs.Limits.{most_hours};
 ghost use Rattle.store.specs.Demands.{DemandOf};
 ghost use Rattle.store.specs.Months.{first_missing, first_short, hour_rows, no_month, quarters_of, hours_of};
-ghost use Rattle.store.specs.Records.{hour_of, reading_of};
+ghost use Rattle.store.specs.Records.{hour_of, reading_of, stretch};
 ghost use Rattle.store.specs.Rows.{rows_in};
 ghost use Rattle.store.specs.Stores.{before_of, months_of};
 
@@ -20,34 +20,37 @@ use crate::store::{DAY_HOURS, DAY_QUARTERS, MONTH_HOURS, MONTH_QUARTERS, RATCHET
 use crate::stretch::month_stretch;
 
 impl Store<'_> {
-    // The quarters of the month at place `k`; none where it is not on file.
+    // What a memory, with room for each month and so many items a day, has of the month at place `k`;
+    // none where it is not on file.
+    fn on_file<'m, T>(&self, memory: &'m [T], room: usize, a_day: usize, k: usize) -> &'m [T]
+        requires held { room * self.now.started ≤ length memory.now }
+        requires roomed { a_day * 31 ≤ room }
+        ensures read { result.now ≡ stretch room k (a_day * (get_or (months_of self.now) k no_month).days) memory.now }
+        ensures counted { length result.now ≡ a_day * (get_or (months_of self.now) k no_month).days }
+        ensures few { length result.now ≤ a_day * 31 }
+    {
+        match self.month(k) {
+            Some(month) => month_stretch(memory, room, k, a_day * month.days as usize),
+            None => &[],
+        }
+    }
+
+    // Its quarters.
     fn quarters(&self, k: usize) -> &[Quarter]
         ensures read { map reading_of result.now ≡ (get_or (months_of self.now) k no_month).readings }
         ensures counted { length result.now ≡ quarters_of (get_or (months_of self.now) k no_month).days }
         ensures few { length result.now ≤ 2976 }
     {
-        match self.month(k) {
-            Some(month) => {
-                let days = month.days as usize;
-                month_stretch(self.memory.quarters, MONTH_QUARTERS, k, DAY_QUARTERS * days)
-            }
-            None => &[],
-        }
+        self.on_file(self.memory.quarters, MONTH_QUARTERS, DAY_QUARTERS, k)
     }
 
-    // Its hours. What the two have in common is `month_stretch`; a choice of the memory would be no plainer.
+    // Its hours.
     fn hours_on_file(&self, k: usize) -> &[Hour]
         ensures read { map hour_of result.now ≡ (get_or (months_of self.now) k no_month).hours }
         ensures counted { length result.now ≡ hours_of (get_or (months_of self.now) k no_month).days }
         ensures few { length result.now ≤ most_hours }
     {
-        match self.month(k) {
-            Some(month) => {
-                let days = month.days as usize;
-                month_stretch(self.memory.hours, MONTH_HOURS, k, DAY_HOURS * days)
-            }
-            None => &[],
-        }
+        self.on_file(self.memory.hours, MONTH_HOURS, DAY_HOURS, k)
     }
 
     // The first quarter of the month at place `k` that has no reading.

@@ -1,15 +1,12 @@
 // The lent memory of a store.
 ghost use Rattle.std.specs.Prelude.{◌≡◌, ◌+◌, ◌*◌, ◌≤◌, map, length, replicate, Some, None};
 ghost use Rattle.std.proofs.lemmas.List.Edits.{sets};
-ghost use Rattle.std.specs.List.{prefix_len};
 ghost use Rattle.tariff.specs.Limits.{most_demand};
-ghost use Rattle.store.specs.Months.{reading_within};
 ghost use Rattle.store.specs.Records.{hour_of, peak_in, reading_of};
 
-use crate::day;
+use crate::day::DayReadings;
 use crate::orders::{Kw, highest_of};
 use crate::quarter::{Hour, Quarter};
-use crate::reading::Reading;
 use crate::store::{DAY_HOURS, DAY_QUARTERS, MONTH_HOURS, MONTH_QUARTERS};
 use crate::stretch::month_stretch;
 
@@ -30,15 +27,14 @@ impl Memory<'_> {
         highest_of::<Quarter, Kw>(month)
     }
 
-    // Readings within their limits, over the quarters from a place on.
-    pub(crate) fn post(&mut self, first: usize, readings: &[Reading])
-        requires readings_in_bounds { first + length readings.now ≤ length self.old.quarters.now }
-        requires readings_len { prefix_len reading_within readings.now ≡ length readings.now }
-        ensures quarters { map reading_of self.new.quarters.now ≡ sets (map reading_of self.old.quarters.now) first (map Some readings.now) }
+    // A day's readings, over the quarters from a place on.
+    pub(crate) fn post(&mut self, first: usize, day: DayReadings<'_>)
+        requires { first + 96 ≤ length self.old.quarters.now }
+        ensures quarters { map reading_of self.new.quarters.now ≡ sets (map reading_of self.old.quarters.now) first (map Some day.entry.readings.now) }
         ensures size { length self.new.quarters.now ≡ length self.old.quarters.now }
         ensures hours { self.new.hours.now ≡ self.old.hours.now }
     {
-        day::write(&mut self.quarters[first..first + readings.len()], readings);
+        day.write(&mut self.quarters[first..first + DAY_QUARTERS]);
     }
 
     // Marks the quarters and the hours of the month at a place, of so many days, as never posted. They

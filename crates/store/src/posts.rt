@@ -4,6 +4,8 @@ ghost use Rattle.store.specs.Months.{aged, carriable, day_fault, fresh, price_wi
 ghost use Rattle.store.specs.Starts.{start_answer};
 ghost use Rattle.store.specs.Stores.{Alters, Posts, before_of, capacity_of, months_of};
 
+use crate::carried;
+use crate::day::DayReadings;
 use crate::errors::{CannotCarry, OutsideLimit};
 use crate::month::MonthRecord;
 use crate::quarter::Quarter;
@@ -12,7 +14,6 @@ use crate::state::State;
 use crate::store::{
     DAY_HOURS, DAY_QUARTERS, LEAST_DAYS, MONTH_HOURS, MONTH_QUARTERS, MOST_DAYS, RATCHET, Store,
 };
-use crate::{carried, day};
 use tariff::{MOST_DEMAND, MOST_PRICE, Refusal};
 
 impl Store<'_> {
@@ -99,11 +100,11 @@ impl Store<'_> {
     ) -> Result<(), OutsideLimit>
         ensures { MatchResult result (λ _. (day_fault readings.now ≡ None) × Alters k (with_readings (96 * day) readings.now) self.old self.new) (λ outside. (day_fault readings.now ≡ Some outside.place) × (self.new ≡ self.old)) }
     {
-        day::check(readings)?;
+        let posted = DayReadings::try_from(readings)?;
         let days = self.days_of(k);
         if day < days {
             let first = MONTH_QUARTERS * k + DAY_QUARTERS * day;
-            self.memory.post(first, readings);
+            self.memory.post(first, posted);
             let peak = self.memory.peak(k, days);
             self.records[RATCHET + k].peak = peak;
         }

@@ -43,7 +43,7 @@ pub(crate) fn fill_rows(rows: &mut [HourRow], quarters: &[Quarter], hours: &[Hou
     ensures filled { take (length hours.now) rows.new ≡ map (hour_row (on_file quarters.now hours.now)) (range_with_len 0 (length hours.now)) }
     ensures within { RowsWithin rows.new }
 {
-    // by index: a proof does not know what is written through `iter_mut`
+    // by index: what is written through an adapter of `iter_mut` has no name in an invariant; tried
     for (h, hour) in hours.iter().enumerate() {
         rows[h] = HourRow {
             energy: energy(quarters, h),

@@ -1,13 +1,7 @@
-use Rattle.std.proofs.Common.{refl, arith}
-use Rattle.store.specs.Months.{fresh, no_month}
-use Rattle.store.proofs.Views.{month_past, quarters_read}
+use Rattle.std.proofs.Common.{map, ap, ◌∙◌}
+use Rattle.store.specs.Records.{reading_of}
+use Rattle.store.proofs.Views.{readings_read}
 use Rattle.store.proofs.store.Store.quarters.Goals as goal
 
-pub returns-in-None : goal.returns-in-None
-unfolding no_month fresh
-returns-in-None c = rw (month_past c.args.self.now c.args.k c.in-None.ensures) (record { read = refl; counted = refl; few = omega arith })
-
-pub returns-in-Some : goal.returns-in-Some
-returns-in-Some c =
-    let read = quarters_read c.args.self.now c.args.k c.in-Some.month c.in-Some.ensures.0 c.in-Some.ensures.1 c.month_stretch.result.now c.month_stretch.ensures in
-    record { read = read.0; counted = read.1; few = read.2 }
+pub returns-clause-read : goal.returns-clause-read
+returns-clause-read c = ap (map reading_of) c.on_file.ensures.read ∙ readings_read c.args.self.now c.args.k
