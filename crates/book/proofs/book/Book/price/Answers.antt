@@ -15,10 +15,10 @@ asked meaning v m at facts rows hours made lent filled is =
 
 pub returns-in-Ok : goal.returns-in-Ok
 returns-in-Ok g c =
-    ap (refused_in c.args.month)
-    (c.in-Ok.ensures ∙ asked _ (view c.args.self.now) c.args.month _ _ _ _ c.facts-facts.ensures c.hours-hours.ensures c.hours-month_hours.ensures c.requires.at)
+    ap (refused_in c.args.found.now.month)
+    (c.in-Ok.ensures ∙ asked _ (view c.args.self.now) c.args.found.now.month _ _ _ _ c.facts-facts.ensures c.hours-hours.ensures c.hours-month_hours.ensures c.requires.at)
 
 pub returns-in-Err : goal.returns-in-Err
 returns-in-Err g c =
-    ap (refused_in c.args.month)
-    (c.in-Err.ensures ∙ asked _ (view c.args.self.now) c.args.month _ _ _ _ c.facts-facts.ensures c.hours-hours.ensures c.hours-month_hours.ensures c.requires.at)
+    ap (refused_in c.args.found.now.month)
+    (c.in-Err.ensures ∙ asked _ (view c.args.self.now) c.args.found.now.month _ _ _ _ c.facts-facts.ensures c.hours-hours.ensures c.hours-month_hours.ensures c.requires.at)
