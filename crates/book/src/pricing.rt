@@ -34,7 +34,7 @@ impl Book<'_> {
         }
     }
 
-    // The month is added to a schedule's fault here.
+    // A schedule's fault is refused with the month.
     pub(crate) fn price<S: Schedule>(&self, found: &Found, schedule: &S) -> Result<Amounts, Refusal>
         requires { InBook found.now.month (view self.now) found.now }
         ensures { plain result ≡ refused_in found.now.month (priced (S.meaning schedule.now) (view self.now) found.now.month) }
@@ -42,12 +42,11 @@ impl Book<'_> {
         let facts = self.facts(found);
         let month_hours = self.store.hours(found.at);
         let hours = month_hours.hours();
-        match schedule.price(&facts, &hours) {
-            Ok(amounts) => Ok(amounts),
-            Err(fault) => Err(Refusal::LinePastLimit {
+        schedule
+            .price(&facts, &hours)
+            .map_err(|fault| Refusal::LinePastLimit {
                 month: found.month,
                 fault,
-            }),
-        }
+            })
     }
 }
