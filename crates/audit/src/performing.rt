@@ -1,26 +1,15 @@
 // One call of a run.
-ghost use Rattle.std.specs.Prelude.{◌≡◌, MatchResult};
+ghost use Rattle.std.specs.Prelude.{◌≡◌};
 ghost use Rattle.book.specs.Books.{view};
 ghost use Rattle.book.specs.Steps.{answer, step};
 ghost use Rattle.audit.specs.Requests.{call_of, shown};
-ghost use Rattle.audit.specs.declared.request.Answer.TheVariants.{Done, Refused};
+ghost use Rattle.audit.specs.declared.request.Answer.TheVariants.{Done};
 
 use crate::request::{Answer, Request};
 use book::Book;
-use tariff::{Refusal, Schedule};
+use tariff::Schedule;
 
-// What a call answered; an accepted one by its kind of reply.
-fn answered<T, F: FnOnce(T) -> Answer>(outcome: Result<T, Refusal>, as_answer: F) -> Answer
-    requires { F.IsAlwaysCallable as_answer }
-    ensures { MatchResult outcome (λ reply. F.post as_answer reply result) (λ refusal. result ≡ Refused refusal) }
-{
-    match outcome {
-        Ok(reply) => as_answer(reply),
-        Err(refusal) => Answer::Refused(refusal),
-    }
-}
-
-// Of a call that replies nothing.
+// What a call that replies nothing answered.
 fn done(_reply: ()) -> Answer
     ensures { result ≡ Done }
 {
@@ -41,31 +30,47 @@ pub(crate) fn perform<S: Schedule>(
             contract,
             substation,
             carried,
-        } => answered(book.open(code, contract, substation, carried), done),
-        Request::Start { days } => answered(book.start(days), Answer::Started),
+        } => book
+            .open(code, contract, substation, carried)
+            .map_or_else(Answer::Refused, done),
+        Request::Start { days } => book
+            .start(days)
+            .map_or_else(Answer::Refused, Answer::Started),
         Request::PostReading {
             month,
             quarter,
             reading,
-        } => answered(book.post_reading(month, quarter, reading), done),
+        } => book
+            .post_reading(month, quarter, reading)
+            .map_or_else(Answer::Refused, done),
         Request::PostDay {
             month,
             day,
             code,
             readings,
-        } => answered(book.post_day(month, day, code, readings), done),
-        Request::PostPrice { month, hour, price } => answered(
-            book.post_price(month, hour, price),
-            done,
-        ),
-        Request::PostSchedule { month, hour, kw } => answered(
-            book.post_schedule(month, hour, kw),
-            done,
-        ),
-        Request::Bill { month } => answered(book.bill(month, schedule), Answer::Written),
-        Request::TrueUp { month } => answered(book.true_up(month, schedule), Answer::Written),
-        Request::Finalise { month } => answered(book.finalise(month, schedule), done),
-        Request::Due { month } => answered(book.due(month, schedule), Answer::IsDue),
-        Request::Total { month, line } => answered(book.total(month, line), Answer::Sum),
+        } => book
+            .post_day(month, day, code, readings)
+            .map_or_else(Answer::Refused, done),
+        Request::PostPrice { month, hour, price } => book
+            .post_price(month, hour, price)
+            .map_or_else(Answer::Refused, done),
+        Request::PostSchedule { month, hour, kw } => book
+            .post_schedule(month, hour, kw)
+            .map_or_else(Answer::Refused, done),
+        Request::Bill { month } => book
+            .bill(month, schedule)
+            .map_or_else(Answer::Refused, Answer::Written),
+        Request::TrueUp { month } => book
+            .true_up(month, schedule)
+            .map_or_else(Answer::Refused, Answer::Written),
+        Request::Finalise { month } => book
+            .finalise(month, schedule)
+            .map_or_else(Answer::Refused, done),
+        Request::Due { month } => book
+            .due(month, schedule)
+            .map_or_else(Answer::Refused, Answer::IsDue),
+        Request::Total { month, line } => book
+            .total(month, line)
+            .map_or_else(Answer::Refused, Answer::Sum),
     }
 }

@@ -92,6 +92,10 @@ module _ (m : ℕ) (v : View) (found : Found) (is : InBook m v found) (state : S
   pub found_state : has_reached state m v ≡ told
   found_state = ap (reached state) (sym is.state) ∙ sym test
 
+-- what refuses the month that was found refuses the one that the caller named
+pub short_named : (m : ℕ) (v : View) (found : Found) → InBook m v found → (state : State) (refusal : Refusal) → ((earlier_short state found.month v).holds ≡ true) × (refusal ≡ (earlier_short state found.month v).refusal) → ((earlier_short state m v).holds ≡ true) × (refusal ≡ (earlier_short state m v).refusal)
+short_named m v found is state refusal short = rw is.named at short
+
 -- the lowest of the earlier months that is short of a state
 module _ (m : ℕ) (v : View) (found : Found) (is : InBook m v found) (state : State) (short : ℕ) (counted : short ≡ first_short state v.months found.at) where
   same_short : short ≡ first_short state v.months (place m)

@@ -9,6 +9,7 @@ use Rattle.book.specs.declared.found.Found.{Found}
 
 -- a month of an opened book
 pub record InBook (m : ℕ) (v : View) (found : Found) : Type 0 where
+  pub named : found.month ≡ m
   pub point : v.point ≡ opened_of (Some found.point)
   pub month : is_month m v ≡ true
   pub there : found.at < length v.months

@@ -41,6 +41,7 @@ impl Book<'_> {
             return Err(Refusal::NoSuchMonth { month });
         };
         Ok(Found {
+            month,
             point,
             at,
             number: month as u8,
@@ -61,18 +62,13 @@ impl Book<'_> {
     }
 
     // Months are billed, and made final, in their order.
-    pub(crate) fn earlier_reached(
-        &self,
-        month: u32,
-        found: &Found,
-        state: State,
-    ) -> Result<(), Refusal>
-        requires { InBook month (view self.now) found.now }
-        ensures { MatchResult result (λ _. (earlier_short state month (view self.now)).holds ≡ false) (λ refusal. ((earlier_short state month (view self.now)).holds ≡ true) × (refusal ≡ (earlier_short state month (view self.now)).refusal)) }
+    pub(crate) fn earlier_reached(&self, found: &Found, state: State) -> Result<(), Refusal>
+        requires { InBook found.now.month (view self.now) found.now }
+        ensures { MatchResult result (λ _. (earlier_short state found.now.month (view self.now)).holds ≡ false) (λ refusal. ((earlier_short state found.now.month (view self.now)).holds ≡ true) × (refusal ≡ (earlier_short state found.now.month (view self.now)).refusal)) }
     {
         match self.store.first_short(state, found.at) {
             Some(short) => Err(Refusal::EarlierMonth {
-                month,
+                month: found.month,
                 place: short as u64 + 1,
             }),
             None => Ok(()),

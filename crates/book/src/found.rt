@@ -2,10 +2,11 @@
 use crate::point::Point;
 use store::State;
 
-// A month of an opened book, with its place from 0 and its number from 1, as entries have it. The
-// calls keep the month as their caller named it beside this, since every refusal says it.
+// A month of an opened book: as the caller named it, with its place from 0, and its number as
+// entries have it.
 #[derive(Clone, Copy)]
 pub(crate) struct Found {
+    pub(crate) month: u32,
     pub(crate) point: Point,
     pub(crate) at: usize,
     pub(crate) number: u8,

@@ -1,7 +1,7 @@
 // What is posted to a month. The last post for a place stands.
-ghost use Rattle.std.specs.Prelude.{◌≡◌};
+ghost use Rattle.std.specs.Prelude.{◌≡◌, ◌<◌, ◌≤◌, MatchResult};
 ghost use Rattle.tariff.specs.Pricing.{Meaning};
-ghost use Rattle.tariff.specs.declared.refusal.Refusal.TheVariants.{OutsideLimit as Outside};
+ghost use Rattle.tariff.specs.declared.refusal.Refusal.TheVariants.{NoSuchPlace, OutsideLimit as Outside};
 ghost use Rattle.book.specs.Books.{Performs};
 ghost use Rattle.book.specs.Calls.{day as of_day, posts, price as of_price, reading as of_reading, scheduled as of_scheduled};
 
@@ -13,7 +13,20 @@ const DAY_QUARTERS: u32 = 96;
 
 const DAY_HOURS: u32 = 24;
 
-// The refusal of a call that names the month.
+// A place, from 0, has to be one of so many that the month has.
+fn check_place(month: u32, place: u32, places: u32) -> Result<(), Refusal>
+    ensures { MatchResult result (λ _. place < places) (λ refusal. (places ≤ place) × (refusal ≡ NoSuchPlace month place)) }
+{
+    if places <= place {
+        return Err(Refusal::NoSuchPlace {
+            month,
+            place: place as u64,
+        });
+    }
+    Ok(())
+}
+
+// The refusal of a post that the store found outside its limits.
 fn outside_limit(month: u32, outside: OutsideLimit) -> Refusal
     ensures { result ≡ Outside month outside.place }
 {
@@ -34,12 +47,7 @@ impl Book<'_> {
         ensures { (meaning : Meaning) → Performs meaning (posts month (of_reading quarter reading)) self.old result self.new }
     {
         let found = self.not_final(month)?;
-        if DAY_QUARTERS * u32::from(found.days) <= quarter {
-            return Err(Refusal::NoSuchPlace {
-                month,
-                place: quarter as u64,
-            });
-        }
+        check_place(month, quarter, DAY_QUARTERS * u32::from(found.days))?;
         self.store
             .put_reading(found.at, quarter as usize, reading)
             .map_err(|outside| outside_limit(month, outside))
@@ -56,12 +64,7 @@ impl Book<'_> {
         ensures { (meaning : Meaning) → Performs meaning (posts month (of_day day code readings.now)) self.old result self.new }
     {
         let found = self.not_final(month)?;
-        if u32::from(found.days) <= day {
-            return Err(Refusal::NoSuchPlace {
-                month,
-                place: day as u64,
-            });
-        }
+        check_place(month, day, u32::from(found.days))?;
         if !found.point.has_code(code) {
             return Err(Refusal::OtherPoint { month });
         }
@@ -75,12 +78,7 @@ impl Book<'_> {
         ensures { (meaning : Meaning) → Performs meaning (posts month (of_price hour price)) self.old result self.new }
     {
         let found = self.not_final(month)?;
-        if DAY_HOURS * u32::from(found.days) <= hour {
-            return Err(Refusal::NoSuchPlace {
-                month,
-                place: hour as u64,
-            });
-        }
+        check_place(month, hour, DAY_HOURS * u32::from(found.days))?;
         self.store
             .put_price(found.at, hour as usize, price)
             .map_err(|outside| outside_limit(month, outside))
@@ -92,12 +90,7 @@ impl Book<'_> {
         ensures { (meaning : Meaning) → Performs meaning (posts month (of_scheduled hour kw)) self.old result self.new }
     {
         let found = self.not_final(month)?;
-        if DAY_HOURS * u32::from(found.days) <= hour {
-            return Err(Refusal::NoSuchPlace {
-                month,
-                place: hour as u64,
-            });
-        }
+        check_place(month, hour, DAY_HOURS * u32::from(found.days))?;
         self.store
             .put_scheduled(found.at, hour as usize, kw)
             .map_err(|outside| outside_limit(month, outside))

@@ -11,9 +11,9 @@ use store::Demand;
 use tariff::{Amounts, Facts, PlainFacts, Refusal, Schedule};
 
 impl Book<'_> {
-    fn facts(&self, month: u32, found: &Found) -> Facts
-        requires { InBook month (view self.now) found.now }
-        ensures { result.plain ≡ facts_of (view self.now) month }
+    fn facts(&self, found: &Found) -> Facts
+        requires { InBook found.now.month (view self.now) found.now }
+        ensures { result.plain ≡ facts_of (view self.now) found.now.month }
     {
         let Some(demand) = self.store.demand(found.at) else {
             unreachable()
@@ -34,22 +34,19 @@ impl Book<'_> {
         }
     }
 
-    // The month is added to a schedule's fault here.
-    pub(crate) fn price<S: Schedule>(
-        &self,
-        month: u32,
-        found: &Found,
-        schedule: &S,
-    ) -> Result<Amounts, Refusal>
-        requires { InBook month (view self.now) found.now }
-        ensures { plain result ≡ refused_in month (priced (S.meaning schedule.now) (view self.now) month) }
+    // A schedule's fault is refused with the month.
+    pub(crate) fn price<S: Schedule>(&self, found: &Found, schedule: &S) -> Result<Amounts, Refusal>
+        requires { InBook found.now.month (view self.now) found.now }
+        ensures { plain result ≡ refused_in found.now.month (priced (S.meaning schedule.now) (view self.now) found.now.month) }
     {
-        let facts = self.facts(month, found);
+        let facts = self.facts(found);
         let month_hours = self.store.hours(found.at);
         let hours = month_hours.hours();
-        match schedule.price(&facts, &hours) {
-            Ok(amounts) => Ok(amounts),
-            Err(fault) => Err(Refusal::LinePastLimit { month, fault }),
-        }
+        schedule
+            .price(&facts, &hours)
+            .map_err(|fault| Refusal::LinePastLimit {
+                month: found.month,
+                fault,
+            })
     }
 }

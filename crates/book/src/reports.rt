@@ -18,7 +18,7 @@ impl Book<'_> {
         if !found.state.has_reached(State::Billed) {
             return Err(Refusal::MonthOpen { month });
         }
-        let amounts = self.price(month, &found, schedule)?;
+        let amounts = self.price(&found, schedule)?;
         Ok(
             self.ledger
                 .first_differing(found.number, &amounts)

@@ -51,8 +51,23 @@ pub(crate) enum Call {
     Scheduled(u32, u32, u32),
     Priced(Ask, u32, By),
     Total(u32, u32),
-    // how many entries the ledger has
     Entries,
+}
+
+// What a call answered that was not refused.
+#[derive(Clone, Copy, PartialEq, Eq, Debug)]
+pub(crate) enum Reply {
+    // opened, posted or made final
+    Done,
+    // the number of the month started
+    Started(u32),
+    // how many entries were written
+    Written(usize),
+    IsDue(bool),
+    // cents
+    Sum(i64),
+    // how many entries the ledger has
+    Entries(usize),
 }
 
 fn post_day(
@@ -62,15 +77,18 @@ fn post_day(
     code: [u8; 8],
     count: usize,
     spoilt: Option<usize>,
-) -> Result<i64, Refusal> {
+) -> Result<(), Refusal> {
     let mut readings = [USUAL; 97];
     if let Some(at) = spoilt
         && at < readings.len()
     {
         readings[at] = Reading { kw: 2, kva: 1 };
     }
-    book.post_day(month, day, code, &readings[..count.min(97)])?;
-    Ok(0)
+    book.post_day(month, day, code, &readings[..count.min(97)])
+}
+
+fn done(_reply: ()) -> Reply {
+    Reply::Done
 }
 
 fn ask_by<S: Schedule>(
@@ -78,19 +96,16 @@ fn ask_by<S: Schedule>(
     ask: Ask,
     month: u32,
     schedule: &S,
-) -> Result<i64, Refusal> {
+) -> Result<Reply, Refusal> {
     match ask {
-        Ask::Bill => Ok(book.bill(month, schedule)?.min(99) as i64),
-        Ask::TrueUp => Ok(book.true_up(month, schedule)?.min(99) as i64),
-        Ask::Finalise => {
-            book.finalise(month, schedule)?;
-            Ok(0)
-        }
-        Ask::Due => Ok(i64::from(book.due(month, schedule)?)),
+        Ask::Bill => book.bill(month, schedule).map(Reply::Written),
+        Ask::TrueUp => book.true_up(month, schedule).map(Reply::Written),
+        Ask::Finalise => book.finalise(month, schedule).map(done),
+        Ask::Due => book.due(month, schedule).map(Reply::IsDue),
     }
 }
 
-fn ask_priced(book: &mut Book<'_>, ask: Ask, month: u32, by: By) -> Result<i64, Refusal> {
+fn ask_priced(book: &mut Book<'_>, ask: Ask, month: u32, by: By) -> Result<Reply, Refusal> {
     match by {
         By::Dts => ask_by(book, ask, month, &dts()?),
         By::Gts => ask_by(book, ask, month, &gts()?),
@@ -107,32 +122,32 @@ fn ask_priced(book: &mut Book<'_>, ask: Ask, month: u32, by: By) -> Result<i64, 
     }
 }
 
-// What a call answers: the month started, the entries written, 1 for a yes, the cents, else 0.
-fn make(book: &mut Book<'_>, call: Call) -> Result<i64, Refusal> {
+fn make(book: &mut Book<'_>, call: Call) -> Result<Reply, Refusal> {
     match call {
-        Call::Open(contract, substation) => book.open(CODE, contract, substation, &[30_000])?,
-        Call::Start(days) => return Ok(i64::from(book.start(days)?)),
-        Call::Full => return Ok(i64::from(start_full(book)?)),
+        Call::Open(contract, substation) => book
+            .open(CODE, contract, substation, &[30_000])
+            .map(done),
+        Call::Start(days) => book.start(days).map(Reply::Started),
+        Call::Full => start_full(book).map(Reply::Started),
         Call::Fill(month, days, kw, price) => {
-            fill(book, month, days, Reading { kw, kva: kw }, price)?
+            fill(book, month, days, Reading { kw, kva: kw }, price).map(done)
         }
-        Call::Reading(month, quarter, kw, kva) => {
-            book.post_reading(month, quarter, Reading { kw, kva })?
-        }
+        Call::Reading(month, quarter, kw, kva) => book
+            .post_reading(month, quarter, Reading { kw, kva })
+            .map(done),
         Call::Day(month, day, code, count, spoilt) => {
-            return post_day(book, month, day, code, count, spoilt);
+            post_day(book, month, day, code, count, spoilt).map(done)
         }
-        Call::Price(month, hour, price) => book.post_price(month, hour, price)?,
-        Call::Scheduled(month, hour, kw) => book.post_schedule(month, hour, kw)?,
-        Call::Priced(ask, month, by) => return ask_priced(book, ask, month, by),
-        Call::Total(month, line) => return book.total(month, line),
-        Call::Entries => return Ok(book.ledger().len().min(999) as i64),
+        Call::Price(month, hour, price) => book.post_price(month, hour, price).map(done),
+        Call::Scheduled(month, hour, kw) => book.post_schedule(month, hour, kw).map(done),
+        Call::Priced(ask, month, by) => ask_priced(book, ask, month, by),
+        Call::Total(month, line) => book.total(month, line).map(Reply::Sum),
+        Call::Entries => Ok(Reply::Entries(book.ledger().len())),
     }
-    Ok(0)
 }
 
 // A refusal by its four numbers.
-pub(crate) fn refused(number: u8, month: u32, place: u64, rider: u16) -> Result<i64, Numbers> {
+pub(crate) fn refused(number: u8, month: u32, place: u64, rider: u16) -> Result<Reply, Numbers> {
     Err(Numbers {
         number,
         month,
@@ -141,8 +156,8 @@ pub(crate) fn refused(number: u8, month: u32, place: u64, rider: u16) -> Result<
     })
 }
 
-// Makes the calls in their order. Each has to answer a number, or a refusal of four numbers.
-pub(crate) fn run(rt: &impl Abort, book: &mut Book<'_>, calls: &[(Call, Result<i64, Numbers>)]) {
+// Makes the calls in their order. Each has to answer so, or be refused by four numbers.
+pub(crate) fn run(rt: &impl Abort, book: &mut Book<'_>, calls: &[(Call, Result<Reply, Numbers>)]) {
     for (i, (call, answer)) in calls.iter().enumerate() {
         let answered = make(book, *call).map_err(|refusal| refusal.numbers());
         // the place in the table says which call it was

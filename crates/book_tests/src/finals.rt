@@ -1,5 +1,5 @@
 // Months that are made final.
-use crate::calls::{Ask, By, Call, refused, run};
+use crate::calls::{Ask, By, Call, Reply, refused, run};
 use crate::support::{CODE, LINES_BILLED, Memory, totals};
 use book::Book;
 use std::test::Fail;
@@ -14,10 +14,10 @@ fn a_month_is_billed_and_made_final(rt: HostRuntime) -> Result<(), Fail> {
         &rt,
         &mut book,
         &[
-            (Call::Open(20_000, 30_000), Ok(0)),
-            (Call::Full, Ok(1)),
-            (Call::Priced(Ask::Bill, 1, By::Dts), Ok(14)),
-            (Call::Priced(Ask::Finalise, 1, By::Dts), Ok(0)),
+            (Call::Open(20_000, 30_000), Ok(Reply::Done)),
+            (Call::Full, Ok(Reply::Started(1))),
+            (Call::Priced(Ask::Bill, 1, By::Dts), Ok(Reply::Written(14))),
+            (Call::Priced(Ask::Finalise, 1, By::Dts), Ok(Reply::Done)),
             (Call::Reading(1, 0, 25_000, 30_000), refused(7, 1, 0, 0)),
             (Call::Day(1, 0, CODE, 96, None), refused(7, 1, 0, 0)),
             (Call::Price(1, 0, 5_000), refused(7, 1, 0, 0)),
@@ -25,8 +25,8 @@ fn a_month_is_billed_and_made_final(rt: HostRuntime) -> Result<(), Fail> {
             (Call::Priced(Ask::Bill, 1, By::Dts), refused(12, 1, 0, 0)),
             (Call::Priced(Ask::TrueUp, 1, By::Dts), refused(7, 1, 0, 0)),
             (Call::Priced(Ask::Finalise, 1, By::Dts), refused(7, 1, 0, 0)),
-            (Call::Priced(Ask::Due, 1, By::Dts), Ok(0)),
-            (Call::Entries, Ok(14)),
+            (Call::Priced(Ask::Due, 1, By::Dts), Ok(Reply::IsDue(false))),
+            (Call::Entries, Ok(Reply::Entries(14))),
         ],
     );
     assert_eq!(rt; totals(&book, 1)?, LINES_BILLED);

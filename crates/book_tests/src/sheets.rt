@@ -1,14 +1,18 @@
 // The sheets of the tests.
 use rates::dts::{DTS_2007, DtsDraft, DtsSheet, GTS_2007};
 use riders::energy::{EnergyDraft, EnergySheet};
-use tariff::{Draft, Refusal};
+use tariff::{Draft, Refusal, Sealed};
+
+fn sealed<D: Draft>(draft: D) -> Result<Sealed<D>, Refusal> {
+    Ok(draft.seal()?)
+}
 
 pub(crate) fn dts() -> Result<DtsSheet, Refusal> {
-    Ok(DTS_2007.seal()?)
+    sealed(DTS_2007)
 }
 
 pub(crate) fn gts() -> Result<DtsSheet, Refusal> {
-    Ok(GTS_2007.seal()?)
+    sealed(GTS_2007)
 }
 
 // A sheet whose first line is a cent for each tenth of a kW of billing capacity, and no other
@@ -24,7 +28,7 @@ pub(crate) fn capacity() -> Result<DtsSheet, Refusal> {
         other_support: 0,
         power_factor: 0,
     };
-    Ok(draft.seal()?)
+    sealed(draft)
 }
 
 pub(crate) fn energy(number: i64) -> Result<EnergySheet, Refusal> {
@@ -32,5 +36,5 @@ pub(crate) fn energy(number: i64) -> Result<EnergySheet, Refusal> {
         number,
         rate: 100_000,
     };
-    Ok(draft.seal()?)
+    sealed(draft)
 }

@@ -4,10 +4,8 @@ use ledger::{Entry, Letter};
 use store::{Hour, Quarter, Reading};
 use tariff::{LINES, Line, Refusal};
 
-// The code of the point, and another.
-pub(crate) const CODE: [u8; 8] = [80, 79, 73, 78, 84, 48, 48, 49];
-
-pub(crate) const OTHER: [u8; 8] = [80, 79, 73, 78, 84, 48, 48, 50];
+// The code of the point.
+pub(crate) const CODE: [u8; 8] = *b"POINT001";
 
 // What stands in a ledger's memory before anything is written to it.
 pub(crate) const UNWRITTEN: Entry = Entry {
@@ -87,14 +85,4 @@ pub(crate) fn totals(book: &Book<'_>, month: u32) -> Result<[i64; LINES], Refusa
         cents[line.place()] = book.total(month, line.number().into())?;
     }
     Ok(cents)
-}
-
-// How many entries a ledger has, and the first 64 of them.
-pub(crate) fn written(book: &Book<'_>) -> (usize, [Entry; 64]) {
-    let entries = book.ledger();
-    let mut first = [UNWRITTEN; 64];
-    for (place, entry) in first.iter_mut().zip(entries) {
-        *place = *entry;
-    }
-    (entries.len(), first)
 }

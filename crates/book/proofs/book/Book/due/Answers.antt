@@ -23,7 +23,7 @@ returns g c =
     let m = c.args.month in
     let v = view c.args.self.now in
     let is = c.in_ok-found.ensures in
-    let ok = c.in_ok-amounts.ensures in
+    let ok = rw is.named at c.in_ok-amounts.ensures in
     let amounts = c.in_ok-amounts.amounts in
     let billed : has_reached Billed m v ≡ true = found_state m v c.in_ok-found.found is Billed _ c.has_reached.ensures ∙ c.if-not-has_reached.false in
     answers_taken meaning (asks_due m) c.args.self.now c.is_some.result

@@ -6,9 +6,9 @@ use Rattle.book.proofs.book.Book.earlier_reached.Goals as goal
 
 pub returns-in-Some : goal.returns-in-Some
 returns-in-Some c =
-    one_short c.args.month (view c.args.self.now) c.args.found.now c.requires c.args.state c.in-Some.short (sym c.in-Some.ensures.0) (omega (arith, c.in-Some.ensures.1))
+    one_short c.args.found.now.month (view c.args.self.now) c.args.found.now c.requires c.args.state c.in-Some.short (sym c.in-Some.ensures.0) (omega (arith, c.in-Some.ensures.1))
 
 pub returns-in-None : goal.returns-in-None
 returns-in-None c =
     let v = view c.args.self.now in
-    none_short c.args.month v c.args.found.now c.requires c.args.state (first_short c.args.state v.months c.args.found.now.at) refl (omega (arith, c.in-None.ensures, c.requires.there))
+    none_short c.args.found.now.month v c.args.found.now c.requires c.args.state (first_short c.args.state v.months c.args.found.now.at) refl (omega (arith, c.in-None.ensures, c.requires.there))

@@ -1,8 +1,13 @@
-use Rattle.std.proofs.Common.{◌≡◌, ℕ, List, get_or, ap, ◌∙◌, ap₂}
+use Rattle.std.proofs.Common.{rules, ◌≡◌, ℕ, List, get_or, IsErrAnd, Ok, Err, Result, ap, ◌∙◌, ap₂}
+use Rattle.std.specs.Result.{MatchResult}
 use Rattle.store.specs.Months.{hour_rows, no_month}
-use Rattle.tariff.specs.Pricing.{Meaning, refused_in}
+use Rattle.tariff.specs.Pricing.{Meaning, plain, refused_in}
+use Rattle.tariff.specs.declared.amounts.Amounts.{Amounts}
 use Rattle.tariff.specs.declared.facts.PlainFacts.{PlainFacts}
 use Rattle.tariff.specs.declared.hours.HourRow.{HourRow}
+use Rattle.tariff.specs.declared.refusal.Fault.{Fault}
+use Rattle.tariff.specs.declared.refusal.Refusal.{Refusal}
+use Rattle.tariff.specs.declared.refusal.Refusal.TheVariants.{LinePastLimit}
 use Rattle.book.specs.Books.{view}
 use Rattle.book.specs.Views.{View, facts_of, place, priced}
 use Rattle.book.proofs.book.Book.price.Goals as goal
@@ -13,12 +18,15 @@ unfolding priced
 asked meaning v m at facts rows hours made lent filled is =
     ap₂ meaning made (lent ∙ filled ∙ ap (λ k. hour_rows (get_or v.months k no_month)) is)
 
-pub returns-in-Ok : goal.returns-in-Ok
-returns-in-Ok g c =
-    ap (refused_in c.args.month)
-    (c.in-Ok.ensures ∙ asked _ (view c.args.self.now) c.args.month _ _ _ _ c.facts-facts.ensures c.hours-hours.ensures c.hours-month_hours.ensures c.requires.at)
+-- a schedule's answer with its fault as a refusal
+named_fault : (m : ℕ) (P : Fault → Refusal → Type 0) (asked : Result Amounts Fault) (r : Result Amounts Refusal) → MatchResult asked (λ amounts. r ≡ Ok amounts) (λ fault. IsErrAnd r (P fault)) → ((fault : Fault) (refusal : Refusal) → P fault refusal → refusal ≡ LinePastLimit m fault) → plain r ≡ refused_in m (plain asked)
+named_fault m P (Ok amounts) r is made = ap plain is
+named_fault m P (Err fault) (Err refusal) is made = ap Err (made fault refusal is)
+named_fault m P (Err fault) (Ok amounts) is made = elim is [ ]
 
-pub returns-in-Err : goal.returns-in-Err
-returns-in-Err g c =
-    ap (refused_in c.args.month)
-    (c.in-Err.ensures ∙ asked _ (view c.args.self.now) c.args.month _ _ _ _ c.facts-facts.ensures c.hours-hours.ensures c.hours-month_hours.ensures c.requires.at)
+pub returns : goal.returns
+returns g c =
+    let m = c.args.found.now.month in
+    named_fault m _ _ _ c.map_err.ensures.cases (λ fault refusal made. search rules)
+    ∙ ap (refused_in m)
+    (c.price.ensures ∙ asked _ (view c.args.self.now) m _ _ _ _ c.facts-facts.ensures c.hours-hours.ensures c.hours-month_hours.ensures c.requires.at)
