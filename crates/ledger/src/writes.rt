@@ -33,6 +33,7 @@ impl Ledger<'_> {
         if free < count {
             return Err(NoRoom { free });
         }
+        // a line's number is its place and one
         for (i, cents) in lines.iter().enumerate() {
             if letter.writes(*cents) {
                 self.push(Entry {

@@ -17,7 +17,8 @@ pub(crate) struct Memory<'a> {
 }
 
 impl Memory<'_> {
-    // The highest kW of the month at a place, of so many days.
+    // The highest kW of the month at a place, of so many days. The memory knows neither, and a struct of
+    // the two for this call and `clear` would be made at each.
     pub(crate) fn peak(&self, k: usize, days: usize) -> u32
         requires { 2976 * k + 96 * days ≤ length self.now.quarters.now }
         ensures counted { result ≡ peak_in self.now.quarters.now k days }
