@@ -9,6 +9,12 @@ mod faulty;
 #[cfg(test)]
 mod finals;
 #[cfg(test)]
+mod ratchet;
+#[cfg(test)]
+mod refusals;
+#[cfg(test)]
+mod room;
+#[cfg(test)]
 mod sheets;
 #[cfg(test)]
 mod support;
