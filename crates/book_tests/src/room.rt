@@ -55,11 +55,7 @@ fn a_book_of_two_months_fits_64_kib(rt: HostRuntime) {
     let book = size_of::<Book<'_>>();
     assert_eq!(rt; readings, 47_616);
     assert_eq!(rt; hours, 11_904);
-    assert!(rt;
-        readings
-            .saturating_add(hours)
-            .saturating_add(entries)
-            .saturating_add(book)
-            <= 65_536
-    );
+    assert_eq!(rt; entries, 768);
+    assert_eq!(rt; book, 664);
+    assert!(rt; readings + hours + entries + book <= 65_536);
 }
