@@ -3,4 +3,5 @@ pub mod Calls
 pub mod Found
 pub mod Steps
 pub mod Table
+pub mod Texts
 pub mod Views

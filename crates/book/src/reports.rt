@@ -1,11 +1,13 @@
 // What a book tells without changing.
-ghost use Rattle.std.specs.Prelude.{◌≡◌};
+ghost use Rattle.std.specs.Prelude.{◌≡◌, length};
 ghost use Rattle.tariff.specs.Pricing.{Meaning};
 ghost use Rattle.book.specs.Books.{Answers, view};
 ghost use Rattle.book.specs.Calls.{asks_due, asks_total};
+ghost use Rattle.book.specs.Table.{InOrder};
+ghost use Rattle.book.specs.Texts.{text_answer, text_leaves, text_rows};
 
 use crate::book::Book;
-use ledger::Entry;
+use ledger::{Entry, NoText};
 use store::State;
 use tariff::{LINES, Refusal, Schedule};
 
@@ -48,5 +50,23 @@ impl Book<'_> {
         ensures { result.now ≡ (view self.now).ledger }
     {
         self.ledger.entries()
+    }
+
+    // Prints an entry, by its place from 0, as a line at the front of the bytes; answers its length.
+    pub fn text(&self, entry: u32, bytes: &mut [u8]) -> Result<usize, Refusal>
+        ensures answer { result ≡ text_answer entry (length bytes.old) (view self.now) }
+        ensures bytes { bytes.new ≡ text_leaves entry (view self.now) bytes.old }
+        ensures ordered { InOrder (text_rows entry (length bytes.old) (view self.now)) }
+    {
+        self.opened(0)?;
+        self.ledger
+            .text(entry as usize, bytes)
+            .map_err(|why| match why {
+                NoText::NoSuchEntry => Refusal::NoSuchPlace {
+                    month: 0,
+                    place: entry.into(),
+                },
+                NoText::TooFewBytes => Refusal::TooFewBytes,
+            })
     }
 }

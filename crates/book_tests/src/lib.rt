@@ -18,3 +18,5 @@ mod room;
 mod sheets;
 #[cfg(test)]
 mod support;
+#[cfg(test)]
+mod texts;

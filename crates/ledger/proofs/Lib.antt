@@ -1,4 +1,5 @@
 pub mod FromFn
 pub mod Fronts
 pub mod Sums
+pub mod Texts
 pub mod Turns

@@ -1,9 +1,12 @@
 -- An entry in print.
-use Rattle.std.specs.Prelude.{ℕ, List, ◌++◌, codes, decimal}
+use Rattle.std.specs.Prelude.{◌≡◌, ℕ, ◌*◌, ◌≤◌, cond, List, ◌++◌, codes, decimal, drop, length, nat_le, nat_lt, pos, slice_index_or, Ok, Err, Result}
 use Rattle.std.specs.Fmt.{signed_decimal}
+use Rattle.tariff.specs.Limits.{most_cents}
 use Rattle.ledger.specs.declared.entry.Entry.{Entry}
 use Rattle.ledger.specs.declared.entry.Letter.{Letter}
 use Rattle.ledger.specs.declared.entry.Letter.TheVariants.{Bill, TrueUp}
+use Rattle.ledger.specs.declared.printed.NoText.{NoText}
+use Rattle.ledger.specs.declared.printed.NoText.TheVariants.{NoSuchEntry, TooFewBytes}
 
 abbrev pub letter_text : Letter → List ℕ
 letter_text Bill = codes "B"
@@ -13,3 +16,38 @@ letter_text TrueUp = codes "T"
 abbrev pub entry_text : Entry → List ℕ
 entry_text entry =
     decimal entry.month ++ (codes " " ++ (letter_text entry.letter ++ (codes " " ++ (decimal entry.line ++ (codes " " ++ signed_decimal entry.cents)))))
+
+-- as a line of its own
+abbrev pub entry_line : Entry → List ℕ
+entry_line entry = entry_text entry ++ codes "\n"
+
+-- what is read past the last entry
+abbrev pub no_entry : Entry
+no_entry = record { month = 0; letter = Bill; line = 0; cents = pos 0 }
+
+-- the line of an entry, by its place from 0
+abbrev pub line_at : ℕ → List Entry → List ℕ
+line_at entry entries = entry_line (slice_index_or entries entry no_entry)
+
+-- a text at the front of bytes; those past it stay
+abbrev pub at_front : List ℕ → List ℕ → List ℕ
+at_front text bytes = text ++ drop (length text) bytes
+
+-- a text laid at the front of bytes that end after it at a place
+pub record Laid (text before : List ℕ) (at : ℕ) (bytes : List ℕ) : Type 0 where
+  pub ends : at ≡ length text
+  pub within : at ≤ length before
+  pub now : bytes ≡ at_front text before
+
+-- an entry takes a sum from one end of its limit to the other at most
+abbrev pub most_owed : ℕ
+most_owed = 2 * most_cents
+
+-- no line of a ledger's entry is longer
+abbrev pub most_bytes : ℕ
+most_bytes = 24
+
+-- how long the line is, or why there is none, from the entries and the number of bytes
+abbrev pub text_answer : ℕ → List Entry → ℕ → Result ℕ NoText
+text_answer entry entries room =
+    cond (nat_le (length entries) entry) (Err NoSuchEntry) (cond (nat_lt room most_bytes) (Err TooFewBytes) (Ok (length (line_at entry entries))))

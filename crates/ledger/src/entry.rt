@@ -32,6 +32,16 @@ impl Letter {
         }
     }
 
+    // As it is printed.
+    pub(crate) fn text(self) -> &'static str
+        ensures { result.now ≡ letter_text self }
+    {
+        match self {
+            Letter::Bill => "B",
+            Letter::TrueUp => "T",
+        }
+    }
+
     // How many of the lines have an entry.
     pub(crate) fn count(self, lines: &[i64]) -> usize
         ensures { result ≡ count_by (is_written self) lines.now }
@@ -52,10 +62,7 @@ impl fmt::Display for Letter {
     ghost output = { λ letter. Some (letter_text letter) };
 
     fn fmt<W: fmt::Write>(&self, f: &mut fmt::Formatter<W>) -> fmt::Result {
-        f.write_str(match self {
-            Letter::Bill => "B",
-            Letter::TrueUp => "T",
-        })
+        f.write_str(self.text())
     }
 }
 

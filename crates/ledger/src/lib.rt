@@ -4,8 +4,10 @@
 
 mod entry;
 mod ledger;
+mod printed;
 mod totals;
 mod writes;
 
 pub use entry::{Entry, Letter};
 pub use ledger::{Ledger, NoRoom};
+pub use printed::{MOST_BYTES, NoText};

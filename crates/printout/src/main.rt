@@ -3,7 +3,8 @@
 #![tactic(auto)]
 
 use audit::{Analyst, Answer, Request, audit};
-use ledger::{Entry, Letter};
+use book::Book;
+use ledger::{Entry, Letter, MOST_BYTES};
 use rates::dts::{DTS_2007, DtsSheet};
 use std::alloc::{AllocError, Global};
 use std::vec;
@@ -123,8 +124,15 @@ fn run(rt: &HostRuntime) -> anyhow::Result<()> {
         &mut plan,
         turns,
     );
-    for entry in book.ledger() {
-        println!(rt; "{entry}")?;
+    print_ledger(rt, &book)
+}
+
+// Each entry as its line.
+fn print_ledger(rt: &HostRuntime, book: &Book<'_>) -> anyhow::Result<()> {
+    let mut line = [0; MOST_BYTES];
+    for entry in 0..u32::try_from(book.ledger().len())? {
+        let length = book.text(entry, &mut line)?;
+        rt.write_all(&line[..length])?;
     }
     Ok(())
 }

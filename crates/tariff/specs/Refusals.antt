@@ -3,7 +3,7 @@ use Rattle.std.specs.Prelude.{ℕ, List, ◌++◌, codes, decimal, unwrap_or}
 use Rattle.tariff.specs.Lines.{number_of}
 use Rattle.tariff.specs.declared.refusal.Numbers.{Numbers}
 use Rattle.tariff.specs.declared.refusal.Refusal.{Refusal}
-use Rattle.tariff.specs.declared.refusal.Refusal.TheVariants.{BookBlank, BookOpen, OpeningOutside, NoMonthFree, DaysOutside, NoSuchMonth, MonthFinal, NoSuchPlace, OtherPoint, OutsideLimit, Missing, MonthBilled, MonthOpen, EarlierMonth, LinePastLimit, LedgerFull, MonthDue, FigureOutside}
+use Rattle.tariff.specs.declared.refusal.Refusal.TheVariants.{BookBlank, BookOpen, OpeningOutside, NoMonthFree, DaysOutside, NoSuchMonth, MonthFinal, NoSuchPlace, OtherPoint, OutsideLimit, Missing, MonthBilled, MonthOpen, EarlierMonth, LinePastLimit, LedgerFull, MonthDue, FigureOutside, TooFewBytes}
 
 abbrev four : ℕ → ℕ → ℕ → ℕ → Numbers
 four number month place rider = record { number = number; month = month; place = place; rider = rider }
@@ -27,6 +27,7 @@ numbers_of (LinePastLimit month fault) = four 15 month (number_of fault.line) (u
 numbers_of (LedgerFull month place) = four 16 month place 0
 numbers_of (MonthDue month place) = four 17 month place 0
 numbers_of (FigureOutside place) = four 18 0 place 0
+numbers_of TooFewBytes = four 19 0 0 0
 
 -- a refusal in print: the word and the four numbers, one space between
 abbrev pub refusal_text : Refusal → List ℕ

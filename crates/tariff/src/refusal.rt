@@ -53,6 +53,8 @@ pub enum Refusal {
     MonthDue { month: u32, place: u64 },
     // a sheet's figure outside its limit
     FigureOutside { place: u64 },
+    // memory too small for an entry's text
+    TooFewBytes,
 }
 
 // The four numbers by which a refusal is known outside the program, 0 where there is none.
@@ -90,6 +92,7 @@ impl Refusal {
             Refusal::LedgerFull { month, place } => (16, month, place, 0),
             Refusal::MonthDue { month, place } => (17, month, place, 0),
             Refusal::FigureOutside { place } => (18, 0, place, 0),
+            Refusal::TooFewBytes => (19, 0, 0, 0),
         };
         Numbers {
             number,

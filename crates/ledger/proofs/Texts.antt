@@ -1,0 +1,68 @@
+-- An entry's line, laid at the front of lent bytes piece by piece, and how long it can be.
+use Rattle.std.proofs.Common.{rules, ◌≡◌, ℕ, ◌+◌, ◌<◌, ◌≤◌, true, get_or, ℤ, pos, negsuc, unsigned_abs, List, [], ◌++◌, codes, decimal, drop, length, take, refl, ap, subst, sym, ◌∙◌, arith}
+use Rattle.std.specs.Fmt.{signed_decimal}
+use Rattle.std.proofs.lemmas.List.{append_assoc, drop_at, drop-drop, length-append, length-drop, take_at}
+use lib.Signed.{mag}
+use borrow.Rule.Slice.PartMut.{put_mid}
+use Rattle.std.proofs.lemmas.Bool.Decides.{nat_tests}
+use Rattle.std.proofs.lemmas.Fmt.{length_signed_le}
+use Rattle.std.proofs.lemmas.Int.{ints}
+use Rattle.ledger.specs.Entries.{SumsWithin, is_for}
+use Rattle.ledger.specs.Texts.{Laid, entry_line, letter_text, most_owed, no_entry}
+use Rattle.ledger.specs.declared.entry.Letter.{Letter}
+use Rattle.ledger.specs.declared.entry.Letter.TheVariants.{Bill, TrueUp}
+use Rattle.ledger.proofs.Turns.{line_sum_more}
+use Rattle.ledger.specs.declared.entry.Entry.{Entry}
+
+module _ (text before bytes more : List ℕ) (at : ℕ) (laid : Laid text before at bytes) where
+  -- a text put behind what is laid
+  pub laid_more : (k next : ℕ) → k ≡ length more → next ≡ at + length more → next ≤ length bytes → Laid (text ++ more) before next (put_mid at k bytes more)
+  laid_more k next is end room =
+      let past = drop (length text) before in
+      let both = length-append text more in
+      let whole : length bytes ≡ length before = omega (arith, ap length laid.now, laid.ends, laid.within, length-append text past, length-drop (length text) before) in
+      let kept : take at bytes ≡ text = ap (take at) laid.now ∙ take_at text past at (sym laid.ends) in
+      let rest : drop at bytes ≡ past = ap (drop at) laid.now ∙ drop_at text past at (sym laid.ends) in
+      let after : drop k past ≡ drop (length (text ++ more)) before = drop-drop k (length text) before ∙ ap (λ n. drop n before) (omega (arith, both)) in
+      record {
+        ends = omega (arith, laid.ends, both);
+        within = omega (arith, whole);
+        now = rw (kept, rest, after) (sym (append_assoc text more (drop (length (text ++ more)) before)));
+      }
+
+pub nothing_laid : (before : List ℕ) → Laid [] before 0 before
+nothing_laid before = record { ends = refl; within = omega arith; now = refl }
+
+in_line : (month letter line cents space end : List ℕ) → ((((((month ++ space) ++ letter) ++ space) ++ line) ++ space) ++ cents) ++ end ≡ (month ++ (space ++ (letter ++ (space ++ (line ++ (space ++ cents)))))) ++ end
+in_line month letter line cents space end = search (rules, append_assoc)
+
+-- the pieces of an entry's line, one behind the other
+pub line_laid : (entry : Entry) (before bytes month letter line cents : List ℕ) (at : ℕ) → month ≡ decimal entry.month → letter ≡ letter_text entry.letter → line ≡ decimal entry.line → cents ≡ signed_decimal entry.cents → Laid (((((((month ++ codes " ") ++ letter) ++ codes " ") ++ line) ++ codes " ") ++ cents) ++ codes "\n") before at bytes → Laid (entry_line entry) before at bytes
+line_laid entry before bytes month letter line cents at is_month is_letter is_line is_cents laid =
+    let whole = in_line month letter line cents (codes " ") (codes "\n") in
+    let is : ((((((month ++ codes " ") ++ letter) ++ codes " ") ++ line) ++ codes " ") ++ cents) ++ codes "\n" ≡ entry_line entry = whole ∙ rw (is_month, is_letter, is_line, is_cents) refl in
+    subst (λ text. Laid text before at bytes) is laid
+
+-- an entry takes a sum within the limit of an amount to one within it
+pub owed_within : (entries : List Entry) → SumsWithin entries → (i : ℕ) → i < length entries → unsigned_abs (get_or entries i no_entry).cents ≤ most_owed
+owed_within entries within i here =
+    let entry = get_or entries i no_entry in
+    let counts : is_for entry.month entry.line entry ≡ true = grind (arith, nat_tests) in
+    let more = line_sum_more entries i here entry.month entry.line true counts in
+    let before = within i entry.month entry.line in
+    let after = within (i + 1) entry.month entry.line in
+    omega (arith, ints)
+
+mag_few : (cents : ℤ) → mag cents ≤ unsigned_abs cents
+mag_few (pos n) = omega arith
+mag_few (negsuc n) = omega arith
+
+letter_is_one : (letter : Letter) → length (letter_text letter) ≡ 1
+letter_is_one Bill = refl
+letter_is_one TrueUp = refl
+
+-- one letter; a sign and twelve digits
+pub pieces_fit : (entry : Entry) (letter cents : List ℕ) → unsigned_abs entry.cents ≤ most_owed → letter ≡ letter_text entry.letter → cents ≡ signed_decimal entry.cents → (length letter ≡ 1) × (length cents ≤ 13)
+pieces_fit entry letter cents owed is_letter is_cents =
+    let size = mag_few entry.cents in
+    (ap length is_letter ∙ letter_is_one entry.letter, rw is_cents (length_signed_le 12 entry.cents (omega arith) (omega arith)))
