@@ -212,7 +212,7 @@ def covers(table):
 
 
 def main():
-    table = months(HERE / "months.txt")
+    table = months((HERE / "months.txt").read_text())
     rows, listed = covered(table), "\n".join(covers(table))
     print(listed)
     missing = [trait for trait in wanted() if trait not in rows]

@@ -121,14 +121,13 @@ def month(text, group, note):
                  figures(rate), [figures(rider) for rider in riders], group, note)
 
 
-def months(path):
-    """The months of a file, in their order."""
+def months(text):
+    """The months of a table, in their order."""
     found, group = [], ""
-    with open(path) as file:
-        for line in file:
-            text, _, note = line.partition("#")
-            if text.strip():
-                found.append(month(text, group, note.strip()))
-            elif note.strip():
-                group = note.strip()
+    for line in text.splitlines():
+        written, _, note = line.partition("#")
+        if written.strip():
+            found.append(month(written, group, note.strip()))
+        elif note.strip():
+            group = note.strip()
     return found
