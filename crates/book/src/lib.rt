@@ -6,6 +6,8 @@ mod billing;
 mod book;
 mod finding;
 mod found;
+mod month;
+mod on_file;
 mod opening;
 mod point;
 mod posts;
@@ -13,3 +15,4 @@ mod pricing;
 mod reports;
 
 pub use book::Book;
+pub use month::MonthOnFile;

@@ -11,7 +11,7 @@ use store::Demand;
 use tariff::{Amounts, Facts, PlainFacts, Refusal, Schedule};
 
 impl Book<'_> {
-    fn facts(&self, found: &Found) -> Facts
+    pub(crate) fn facts(&self, found: &Found) -> Facts
         requires { InBook found.now.month (view self.now) found.now }
         ensures { result.plain ≡ facts_of (view self.now) found.now.month }
     {

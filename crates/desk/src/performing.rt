@@ -1,0 +1,1 @@
+// One call of the journal, performed on the book.
