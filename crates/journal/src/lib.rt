@@ -2,5 +2,16 @@
 
 #![tactic(auto)]
 
+mod call;
+mod counted;
+mod drafts;
+mod misread;
+mod reader;
 mod said;
+mod verb;
 mod words;
+
+pub use call::{Call, Posts};
+pub use misread::Misread;
+pub use reader::read;
+pub use verb::Verb;
