@@ -1,0 +1,6 @@
+pub mod Words
+pub mod Said
+pub mod Verbs
+pub mod Calls
+pub mod Drafts
+pub mod Lines

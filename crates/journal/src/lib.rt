@@ -1,0 +1,17 @@
+// The desk's journal: a line read into the call that it writes down, and a call written as a line.
+
+#![tactic(auto)]
+
+mod call;
+mod counted;
+mod drafts;
+mod misread;
+mod reader;
+mod said;
+mod verb;
+mod words;
+
+pub use call::{Call, Posts};
+pub use misread::Misread;
+pub use reader::read;
+pub use verb::Verb;
