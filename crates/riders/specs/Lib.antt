@@ -4,3 +4,4 @@ pub mod Percent
 pub mod Riders
 pub mod Credits
 pub mod Sums
+pub mod Bounds

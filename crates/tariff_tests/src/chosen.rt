@@ -1,0 +1,202 @@
+// Rates and piles of riders chosen at run time.
+use crate::support::{HIGHEST, cents, sealed};
+use piles::{Pile, RateDraft, RateSheet, RiderDraft, RiderSheet};
+use rates::dos::DosDraft;
+use rates::dts::{DTS_2007, DtsDraft, GTS_2007};
+use rates::sts::StsDraft;
+use rates::xts::XtsDraft;
+use riders::Rider;
+use riders::credit::CreditDraft;
+use riders::energy::EnergyDraft;
+use riders::percent::PercentDraft;
+use std::test::Fail;
+use tariff::{Draft, Fault, HourRow, LINES, Line, PlainFacts, Rate, Refusal, Schedule};
+
+const PLANT: PlainFacts = PlainFacts {
+    contract: 20_000,
+    substation: 30_000,
+    peak: 25_000,
+    apparent: 30_000,
+    earlier: 30_000,
+};
+
+// Something bought, something sold and something scheduled.
+const ROWS: [HourRow; 3] = [
+    HourRow {
+        energy: 100_000,
+        price: 5_000,
+        scheduled: 0,
+    },
+    HourRow {
+        energy: 80_000,
+        price: 99_999,
+        scheduled: 15_000,
+    },
+    HourRow {
+        energy: 0,
+        price: 0,
+        scheduled: 1,
+    },
+];
+
+fn plant_cents<S: Schedule>(schedule: &S) -> Result<[i64; LINES], Refusal> {
+    cents(schedule, PLANT, &ROWS)
+}
+
+fn chosen_cents(draft: RateDraft) -> Result<[i64; LINES], Refusal> {
+    plant_cents(&RateSheet::try_from(draft)?)
+}
+
+fn sealed_cents<R: Rate>(draft: R) -> Result<[i64; LINES], Refusal> {
+    plant_cents(&sealed(draft)?)
+}
+
+#[test]
+fn each_rate_chosen_is_that_rate(rt: HostRuntime) -> Result<(), Fail> {
+    let xts = XtsDraft::published_2007();
+    let dos = DosDraft::published_2009(10_000, -500);
+    let sts = StsDraft::published_2009(-300, 40_000);
+    assert_eq!(rt;
+        chosen_cents(RateDraft::Dts(DTS_2007))?,
+        sealed_cents(DTS_2007)?
+    );
+    assert_eq!(rt;
+        chosen_cents(RateDraft::Gts(GTS_2007))?,
+        sealed_cents(GTS_2007)?
+    );
+    assert_eq!(rt; chosen_cents(RateDraft::Xts(xts))?, sealed_cents(xts)?);
+    assert_eq!(rt; chosen_cents(RateDraft::Dos(dos))?, sealed_cents(dos)?);
+    assert_eq!(rt; chosen_cents(RateDraft::Sts(sts))?, sealed_cents(sts)?);
+    // a line of each that no other of them has so: 4 of DTS and GTS, 9, 10 and 12
+    let dts = chosen_cents(RateDraft::Dts(DTS_2007))?;
+    assert_eq!(rt; dts[Line::DeliveryFixed.place()], 1_516_333);
+    let gts = chosen_cents(RateDraft::Gts(GTS_2007))?;
+    assert_eq!(rt; gts[Line::DeliveryDemand.place()], 14_058_900);
+    let xts = chosen_cents(RateDraft::Xts(xts))?;
+    assert_eq!(rt; xts[Line::Interconnection.place()], 16_965);
+    let dos = chosen_cents(RateDraft::Dos(dos))?;
+    assert_eq!(rt; dos[Line::TransactionFee.place()], 50_000);
+    let sts = chosen_cents(RateDraft::Sts(sts))?;
+    assert_eq!(rt; sts[Line::UnitConnection.place()], 1_036_000);
+    Ok(())
+}
+
+fn energy(number: i64, rate: i64) -> EnergyDraft {
+    EnergyDraft { number, rate }
+}
+
+fn percent(number: i64, factor: i64) -> PercentDraft {
+    PercentDraft { number, factor }
+}
+
+#[test]
+fn a_chosen_pile_is_the_nested_riders(rt: HostRuntime) -> Result<(), Fail> {
+    let credit = CreditDraft::published_2009(7);
+    let mut pile = Pile::new(rt.alloc(), RateSheet::try_from(RateDraft::Dts(DTS_2007))?);
+    assert_eq!(rt; plant_cents(&pile)?, sealed_cents(DTS_2007)?);
+    pile.pile(RiderSheet::try_from(RiderDraft::Credit(credit))?)?;
+    pile.pile(RiderSheet::try_from(RiderDraft::Energy(energy(11, -250)))?)?;
+    pile.pile(RiderSheet::try_from(RiderDraft::Percent(percent(12, 374)))?)?;
+    let nested = Rider::over(
+        sealed(percent(12, 374))?,
+        Rider::over(
+            sealed(energy(11, -250))?,
+            Rider::over(sealed(credit)?, sealed(DTS_2007)?),
+        ),
+    );
+    let priced = plant_cents(&pile)?;
+    assert_eq!(rt; priced, plant_cents(&nested)?);
+    // B × S is 8,100,000,000: the first three bands whole and 100,000,000 of the rest, so 2,511,933 and a third off
+    assert_eq!(rt; priced[Line::PrimaryServiceCredit.place()], -2_511_933);
+    Ok(())
+}
+
+// The order counts: a percent rider takes what lies beneath it alone.
+#[test]
+fn riders_pile_upwards(rt: HostRuntime) -> Result<(), Fail> {
+    let row = [HourRow {
+        energy: 4_000,
+        price: 0,
+        scheduled: 0,
+    }];
+    let nothing = RateDraft::Sts(StsDraft {
+        loss_factor: 0,
+        unit_rating: 0,
+        unit_connection: 0,
+    });
+    let ten = RiderSheet::try_from(RiderDraft::Energy(energy(1, 10)))?;
+    let doubling = RiderSheet::try_from(RiderDraft::Percent(percent(2, 10_000)))?;
+    let mut above = Pile::new(rt.alloc(), RateSheet::try_from(nothing)?);
+    above.pile(ten)?;
+    above.pile(doubling)?;
+    assert_eq!(rt; cents(&above, PLANT, &row)?[Line::Riders.place()], 20);
+    let mut beneath = Pile::new(rt.alloc(), RateSheet::try_from(nothing)?);
+    beneath.pile(doubling)?;
+    beneath.pile(ten)?;
+    assert_eq!(rt; cents(&beneath, PLANT, &row)?[Line::Riders.place()], 10);
+    Ok(())
+}
+
+// The third energy rider at the top rate passes the limit in a full month; its fault comes up through the fourth.
+#[test]
+fn a_fault_names_its_rider(rt: HostRuntime) -> Result<(), Fail> {
+    let sts = StsDraft::published_2009(0, 0);
+    let mut pile = Pile::new(rt.alloc(), RateSheet::try_from(RateDraft::Sts(sts))?);
+    for number in 7..10 {
+        pile.pile(RiderSheet::try_from(RiderDraft::Energy(energy(number, 100_000)))?)?;
+    }
+    pile.pile(RiderSheet::try_from(RiderDraft::Percent(percent(10, 1)))?)?;
+    assert_eq!(rt;
+        cents(&pile, PLANT, &[HIGHEST; 744]).err(),
+        Some(Refusal::LinePastLimit {
+            month: 0,
+            fault: Fault {
+                line: Line::Riders,
+                rider: Some(9)
+            }
+        })
+    );
+    Ok(())
+}
+
+fn rate_refused(draft: RateDraft) -> Option<Refusal> {
+    RateSheet::try_from(draft).err()
+}
+
+fn rider_refused(draft: RiderDraft) -> Option<Refusal> {
+    RiderSheet::try_from(draft).err()
+}
+
+fn at(place: u64) -> Option<Refusal> {
+    Some(Refusal::FigureOutside { place })
+}
+
+#[test]
+fn a_figure_outside_is_named(rt: HostRuntime) {
+    let damaged = DtsDraft {
+        operating_reserve: 10_001,
+        power_factor: -1,
+        ..DTS_2007
+    };
+    assert_eq!(rt; rate_refused(RateDraft::Dts(damaged)), at(5));
+    assert_eq!(rt; rate_refused(RateDraft::Gts(damaged)), at(5));
+    let xts = XtsDraft {
+        other_support: -1,
+        ..XtsDraft::published_2007()
+    };
+    assert_eq!(rt; rate_refused(RateDraft::Xts(xts)), at(4));
+    let dos = DosDraft::published_2009(0, 0);
+    assert_eq!(rt; rate_refused(RateDraft::Dos(dos)), at(3));
+    let sts = StsDraft::published_2009(0, 1_000_001);
+    assert_eq!(rt; rate_refused(RateDraft::Sts(sts)), at(2));
+    assert_eq!(rt; rider_refused(RiderDraft::Energy(energy(0, 0))), at(1));
+    assert_eq!(rt;
+        rider_refused(RiderDraft::Percent(percent(1, 10_001))),
+        at(2)
+    );
+    let credit = CreditDraft {
+        fixed: -1,
+        ..CreditDraft::published_2009(1)
+    };
+    assert_eq!(rt; rider_refused(RiderDraft::Credit(credit)), at(6));
+}
