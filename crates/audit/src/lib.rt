@@ -9,4 +9,5 @@ mod request;
 
 pub use analyst::Analyst;
 pub use auditing::audit;
+pub use performing::perform;
 pub use request::{Answer, Request};

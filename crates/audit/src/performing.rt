@@ -16,7 +16,8 @@ fn done(_reply: ()) -> Answer
     Answer::Done
 }
 
-pub(crate) fn perform<S: Schedule>(
+// The request as a call of the book, under the schedule where it prices, and what it answers.
+pub fn perform<S: Schedule>(
     book: &mut Book<'_>,
     schedule: &S,
     request: Request<'_>,

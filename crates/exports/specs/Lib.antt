@@ -1,0 +1,9 @@
+pub mod Answers
+pub mod Calls
+pub mod Chosen
+pub mod Codes
+pub mod Ledgers
+pub mod Performed
+pub mod Priced
+pub mod Runs
+pub mod Sheets
