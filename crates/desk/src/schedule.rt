@@ -23,19 +23,51 @@ impl From<AllocFailed<RiderSheet>> for Unchosen {
     }
 }
 
-// DTS at its published figures until a line says otherwise.
-pub(crate) fn usual(alloc: Global) -> Result<Pile, Refusal> {
-    Ok(Pile::new(alloc, RateSheet::try_from(RateDraft::Dts(DTS_2007))?))
+// The pile that prices, and whether it is the first.
+#[derive(Drop)]
+pub(crate) struct Chosen {
+    pub(crate) pile: Pile,
+    // a line chose a part of it
+    begun: bool,
+    // the book was made, so that a change is one in the middle of its run
+    used: bool,
+    changed: bool,
 }
 
-// A new pile, of the rate alone.
-pub(crate) fn begin(alloc: Global, pile: &mut Pile, rate: RateDraft) -> Result<(), Unchosen> {
-    *pile = Pile::new(alloc, RateSheet::try_from(rate)?);
-    Ok(())
-}
+impl Chosen {
+    // DTS at its published figures until a line says otherwise.
+    pub(crate) fn usual(alloc: Global) -> Result<Chosen, Refusal> {
+        Ok(Chosen {
+            pile: Pile::new(alloc, RateSheet::try_from(RateDraft::Dts(DTS_2007))?),
+            begun: false,
+            used: false,
+            changed: false,
+        })
+    }
 
-// One rider more, over those that are there.
-pub(crate) fn lay(pile: &mut Pile, rider: RiderDraft) -> Result<(), Unchosen> {
-    pile.pile(RiderSheet::try_from(rider)?)?;
-    Ok(())
+    // A new pile, of the rate alone.
+    pub(crate) fn begin(&mut self, alloc: Global, rate: RateDraft) -> Result<(), Unchosen> {
+        self.pile = Pile::new(alloc, RateSheet::try_from(rate)?);
+        self.changed = self.changed || self.begun || self.used;
+        self.begun = true;
+        Ok(())
+    }
+
+    // One rider more, over those that are there.
+    pub(crate) fn lay(&mut self, rider: RiderDraft) -> Result<(), Unchosen> {
+        self.pile.pile(RiderSheet::try_from(rider)?)?;
+        self.changed = self.changed || self.used;
+        self.begun = true;
+        Ok(())
+    }
+
+    // The book is made: from here on it prices.
+    pub(crate) fn used(&mut self) {
+        self.used = true;
+    }
+
+    // Whether a schedule after the first prices.
+    pub(crate) fn has_changed(&self) -> bool {
+        self.changed
+    }
 }

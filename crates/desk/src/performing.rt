@@ -1,1 +1,0 @@
-// One call of the journal, performed on the book.
