@@ -1,5 +1,4 @@
 // The figures of a rate or a rider, as the table has them; those left out are the published ones.
-use crate::month::words;
 use anyhow::{Result, bail};
 use piles::{RateDraft, RiderDraft};
 use rates::dos::DosDraft;
@@ -9,7 +8,6 @@ use rates::xts::{XTS_2007, XtsDraft};
 use riders::credit::CreditDraft;
 use riders::energy::EnergyDraft;
 use riders::percent::PercentDraft;
-use std::alloc::Global;
 
 fn read_dts(figures: &[&str], published: DtsDraft) -> Result<DtsDraft> {
     match *figures {
@@ -82,8 +80,8 @@ fn read_credit(number: &str, figures: &[&str]) -> Result<CreditDraft> {
     }
 }
 
-pub fn read_rate(alloc: Global, text: &str) -> Result<RateDraft> {
-    match *words(alloc, text)? {
+pub fn read_rate(words: &[&str]) -> Result<RateDraft> {
+    match *words {
         ["dts", ref figures @ ..] => Ok(RateDraft::Dts(read_dts(figures, DTS_2007)?)),
         ["gts", ref figures @ ..] => Ok(RateDraft::Gts(read_dts(figures, GTS_2007)?)),
         ["xts", ref figures @ ..] => Ok(RateDraft::Xts(read_xts(figures)?)),
@@ -93,8 +91,8 @@ pub fn read_rate(alloc: Global, text: &str) -> Result<RateDraft> {
     }
 }
 
-pub fn read_rider(alloc: Global, text: &str) -> Result<RiderDraft> {
-    match *words(alloc, text)? {
+pub fn read_rider(words: &[&str]) -> Result<RiderDraft> {
+    match *words {
         ["energy", number, rate] => Ok(RiderDraft::Energy(EnergyDraft {
             number: number.parse()?,
             rate: rate.parse()?,

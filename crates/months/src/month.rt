@@ -4,7 +4,7 @@
 use crate::figures::{read_rate, read_rider};
 use anyhow::{Context, Result, bail};
 use piles::{RateDraft, RiderDraft};
-use std::alloc::Global;
+use std::alloc::{AllocError, Global};
 use tariff::{HourRow, PlainFacts};
 
 // The numbers of a month as they are written, within their limits or not. The riders are piled
@@ -17,12 +17,12 @@ pub struct Month {
     pub riders: Vec<RiderDraft>,
 }
 
-pub fn words(alloc: Global, text: &str) -> Result<Vec<&str>> {
-    Ok(text.split_whitespace().collect(alloc)?)
+fn words(alloc: Global, text: &str) -> Result<Vec<&str>, AllocError> {
+    text.split_whitespace().collect(alloc)
 }
 
-fn read_facts(alloc: Global, text: &str) -> Result<PlainFacts> {
-    match *words(alloc, text)? {
+fn read_facts(words: &[&str]) -> Result<PlainFacts> {
+    match *words {
         [contract, substation, peak, apparent, earlier] => Ok(PlainFacts {
             contract: contract.parse()?,
             substation: substation.parse()?,
@@ -65,12 +65,12 @@ pub fn read_month(alloc: Global, line: &str) -> Result<Option<Month>> {
         return Ok(None);
     }
     let mut parts = text.split('|');
-    let facts = read_facts(alloc, parts.next().context("no facts")?)?;
+    let facts = read_facts(&words(alloc, parts.next().context("no facts")?)?)?;
     let hours = read_hours(alloc, parts.next().context("no hours")?)?;
-    let rate = read_rate(alloc, parts.next().context("no rate")?)?;
+    let rate = read_rate(&words(alloc, parts.next().context("no rate")?)?)?;
     let mut riders = Vec::new(alloc);
     for part in parts {
-        riders.push(read_rider(alloc, part)?)?;
+        riders.push(read_rider(&words(alloc, part)?)?)?;
     }
     Ok(Some(Month {
         facts,
@@ -78,4 +78,76 @@ pub fn read_month(alloc: Global, line: &str) -> Result<Option<Month>> {
         rate,
         riders,
     }))
+}
+
+#[cfg(test)]
+mod tests {
+    use super::*;
+    use std::test::Fail;
+
+    #[test]
+    fn reads_what_is_written(rt: HostRuntime) -> Result<(), Fail> {
+        let line = "5 6 7 8 9 | 2x10@11/12 1x13@14 | sts -3 4 | psc 7 | energy 8 -9 # a note | 1";
+        let Some(month) = read_month(rt.alloc(), line)? else {
+            return Err(Fail::new("no month"));
+        };
+        let facts = month.facts;
+        assert_eq!(rt; (facts.contract, facts.substation), (5, 6));
+        assert_eq!(rt; (facts.peak, facts.apparent, facts.earlier), (7, 8, 9));
+        assert_eq!(rt; month.hours.len(), 3);
+        for (row, wanted) in month
+            .hours
+            .iter()
+            .zip([(10, 11, 12), (10, 11, 12), (13, 14, 0)])
+        {
+            assert_eq!(rt; (row.energy, row.price, row.scheduled), wanted);
+        }
+        let RateDraft::Sts(rate) = month.rate else {
+            return Err(Fail::new("another rate"));
+        };
+        assert_eq!(rt; (rate.loss_factor, rate.unit_rating), (-3, 4));
+        assert_eq!(rt; rate.unit_connection, 25_900);
+        let [RiderDraft::Credit(credit), RiderDraft::Energy(energy)] = *month.riders else {
+            return Err(Fail::new("other riders"));
+        };
+        assert_eq!(rt;
+            (credit.number, credit.first, credit.fixed),
+            (7, 217_500, 386_700)
+        );
+        assert_eq!(rt; (energy.number, energy.rate), (8, -9));
+        Ok(())
+    }
+
+    #[test]
+    fn passes_over_comments(rt: HostRuntime) -> Result<(), Fail> {
+        for line in ["", "  ", "# 5 6 7 8 9 | | dts", "  # "] {
+            assert!(rt; read_month(rt.alloc(), line)?.is_none());
+        }
+        Ok(())
+    }
+
+    #[test]
+    fn misreads(rt: HostRuntime) -> Result<(), Fail> {
+        for line in [
+            "5 6 7 8",
+            "5 6 7 8 9 | ",
+            "5 6 7 8 | | dts",
+            "5 6 7 8 -9 | | dts",
+            "5 6 7 8 4294967296 | | dts",
+            "5 6 7 8 9 | 2*10@11 | dts",
+            "5 6 7 8 9 | 2x10 | dts",
+            "5 6 7 8 9 | 2x10@11/ | dts",
+            "5 6 7 8 9 | 65536x10@11 | dts",
+            "5 6 7 8 9 | | ",
+            "5 6 7 8 9 | | cts",
+            "5 6 7 8 9 | | dts 1 2 3 4 5 6 7",
+            "5 6 7 8 9 | | dos 1",
+            "5 6 7 8 9 | | dts | ",
+            "5 6 7 8 9 | | dts | psc",
+            "5 6 7 8 9 | | dts | energy 1 9223372036854775808",
+        ] {
+            assert!(rt; read_month(rt.alloc(), line).is_err());
+        }
+        Ok(())
+    }
 }
