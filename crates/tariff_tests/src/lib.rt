@@ -11,7 +11,7 @@ mod money;
 #[cfg(test)]
 mod months;
 #[cfg(test)]
-mod piles;
+mod piled;
 #[cfg(test)]
 mod ranks;
 #[cfg(test)]
