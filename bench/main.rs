@@ -10,6 +10,13 @@ mod records;
 
 use std::process::ExitCode;
 
+// Moves all code behind it, since where a loop lies in memory can change its time by half.
+std::arch::global_asm!(concat!(
+    ".section .text.place, \"axR\", @progbits\n.skip ",
+    env!("BENCH_PLACE"),
+    "\n.previous"
+));
+
 fn main() -> ExitCode {
     let arguments: Vec<String> = std::env::args().skip(1).collect();
     let words: Vec<&str> = arguments.iter().map(String::as_str).collect();

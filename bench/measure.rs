@@ -283,51 +283,52 @@ impl Prepared {
     }
 }
 
-fn median(mut times: Vec<f64>) -> f64 {
-    times.sort_by(f64::total_cmp);
-    times[times.len() / 2]
-}
-
-/// The least and the median over the rounds, of each side, in nanoseconds.
+/// For each thing measured a line: its name, its unit, and what it takes on each side, in
+/// nanoseconds, by the least of the rounds.
 pub fn measure() {
-    println!(
-        "time: the least of {ROUNDS} rounds, the sides by turns; in brackets the ratio of the medians"
-    );
     for measured in &MEASURED {
         let mut with = Prepared::new(measured.work);
         let mut without = Prepared::new(measured.without);
         with.check::<Library>();
         with.check::<Plain>();
-        let mut library = Vec::new();
-        let mut plain = Vec::new();
+        let mut library = Least::new();
+        let mut plain = Least::new();
         for _ in 0..ROUNDS {
-            library.push((
-                with.nanoseconds::<Library>(),
-                without.nanoseconds::<Library>(),
-            ));
-            plain.push((with.nanoseconds::<Plain>(), without.nanoseconds::<Plain>()));
+            library.round::<Library>(&mut with, &mut without);
+            plain.round::<Plain>(&mut with, &mut without);
         }
-        let (ours, ours_median) = difference(&library, measured.times);
-        let (theirs, theirs_median) = difference(&plain, measured.times);
         println!(
-            "  {:<30} library {ours:>9.0} ns, plain {theirs:>9.0} ns {}: ratio {:.2} ({:.2})",
+            "{}\t{}\t{:.1}\t{:.1}",
             measured.name,
             measured.unit,
-            ours / theirs,
-            ours_median / theirs_median
+            library.each(measured.times),
+            plain.each(measured.times)
         );
     }
 }
 
-/// What the work takes beyond that without it, each time: of the least, and of the medians.
-fn difference(rounds: &[(f64, f64)], times: usize) -> (f64, f64) {
-    let (with, without): (Vec<f64>, Vec<f64>) = rounds.iter().copied().unzip();
-    let least = |times: &[f64]| times.iter().copied().fold(f64::INFINITY, f64::min);
-    let each = |nanoseconds: f64| nanoseconds / times as f64;
-    (
-        each(least(&with) - least(&without)),
-        each(median(with) - median(without)),
-    )
+/// The least time of a work, and of the same without what is asked about.
+struct Least {
+    with: f64,
+    without: f64,
+}
+
+impl Least {
+    fn new() -> Least {
+        Least {
+            with: f64::INFINITY,
+            without: f64::INFINITY,
+        }
+    }
+
+    fn round<S: Side>(&mut self, with: &mut Prepared, without: &mut Prepared) {
+        self.with = self.with.min(with.nanoseconds::<S>());
+        self.without = self.without.min(without.nanoseconds::<S>());
+    }
+
+    fn each(&self, times: usize) -> f64 {
+        (self.with - self.without) / times as f64
+    }
 }
 
 /// One work of one side and nothing else, for a count of its instructions: the number of the thing

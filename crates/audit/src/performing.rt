@@ -17,11 +17,7 @@ fn done(_reply: ()) -> Answer
 }
 
 // The request as a call of the book, under the schedule where it prices, and what it answers.
-pub fn perform<S: Schedule>(
-    book: &mut Book<'_>,
-    schedule: &S,
-    request: Request<'_>,
-) -> Answer
+pub fn perform<S: Schedule>(book: &mut Book<'_>, schedule: &S, request: Request<'_>) -> Answer
     ensures answers { result ≡ shown (call_of request.entry) (answer (S.meaning schedule.now) (call_of request.entry) (view book.old)) }
     ensures leaves { view book.new ≡ step (S.meaning schedule.now) (call_of request.entry) (view book.old) }
 {

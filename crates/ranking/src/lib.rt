@@ -2,10 +2,10 @@
 
 #![tactic(auto)]
 
-ghost use Rattle.std.specs.Prelude.{◌≡◌, ℕ, ◌<◌, Bool, true, false, length, MatchOption};
+ghost use Rattle.std.specs.Prelude.{◌≡◌, ℕ, ◌<◌, ◌≤◌, Bool, true, false, length, MatchOption, slice_index_or};
 ghost use Rattle.std.specs.Cmp.{IsStrictWeakOrder};
 ghost use Rattle.std.specs.List.{IsFirstBest};
-ghost use Rattle.ranking.specs.Orders.{then_outranks};
+ghost use Rattle.ranking.specs.Orders.{NoneAbove, then_outranks};
 ghost use Rattle.std.proofs.Common.{rules};
 
 // An order on records of type R. It stands on a selector type, so that one
@@ -21,21 +21,31 @@ pub trait Order<R> {
     ghost orders: { IsStrictWeakOrder outranks };
 }
 
+// The place of the first record from a place on that stands above another.
+fn first_above<R, K: Order<R>>(run: &[R], from: usize, other: &R) -> Option<usize>
+    ensures { MatchOption result (NoneAbove K.outranks run.now from (length run.now) other.now) (λ i. (from ≤ i) × (i < length run.now) × NoneAbove K.outranks run.now from i other.now × ((d : R) → K.outranks (slice_index_or run.now i d) other.now ≡ true)) }
+{
+    for i in from..run.len() {
+        if K::above(&run[i], other) {
+            return Some(i);
+        }
+    }
+    None
+}
+
 // The place of the highest record of a run, the first among equals; none for an empty run.
 pub fn highest<R, K: Order<R>>(run: &[R]) -> Option<usize>
     ensures { MatchOption result (length run.now ≡ 0) (λ best. IsFirstBest K.outranks run.now (length run.now) best) }
 {
-    let mut best = None;
-    for (i, record) in run.iter().enumerate() {
-        let higher = match best {
-            Some(highest) => K::above(record, &run[highest]),
-            None => true,
-        };
-        if higher {
-            best = Some(i);
-        }
+    if run.is_empty() {
+        return None;
     }
-    best
+    let mut best = 0;
+    // each search is for one record, so that what ranks it is read once
+    while let Some(next) = first_above::<R, K>(run, best, &run[best]) {
+        best = next;
+    }
+    Some(best)
 }
 
 // One order, and among its equals another.

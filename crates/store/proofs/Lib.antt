@@ -1,4 +1,5 @@
 pub mod Each
+pub mod Parts
 pub mod Peaks
 pub mod Posted
 pub mod Stretches

@@ -51,10 +51,7 @@ impl DayReadings<'_> {
     {
         // by index: what is written through an adapter of `iter_mut` has no name in an invariant; tried
         for (i, reading) in self.readings.iter().enumerate() {
-            let Ok(quarter) = Quarter::try_from(*reading) else {
-                unreachable()
-            };
-            quarters[i] = quarter;
+            quarters[i] = Quarter::holding(*reading);
         }
     }
 }

@@ -1,7 +1,8 @@
 // The lent memory of a store.
-ghost use Rattle.std.specs.Prelude.{◌≡◌, ◌+◌, ◌*◌, ◌≤◌, map, length, replicate, Some, None};
+ghost use Rattle.std.specs.Prelude.{◌≡◌, ◌+◌, ◌*◌, ◌<◌, ◌≤◌, map, drop, length, replicate, take, Some, None};
 ghost use Rattle.std.proofs.lemmas.List.Edits.{sets};
 ghost use Rattle.tariff.specs.Limits.{most_demand};
+ghost use Rattle.store.specs.Months.{kw_of, top};
 ghost use Rattle.store.specs.Records.{hour_of, peak_in, reading_of};
 
 use crate::day::DayReadings;
@@ -26,6 +27,42 @@ impl Memory<'_> {
     {
         let month = month_stretch(self.quarters, MONTH_QUARTERS, k, DAY_QUARTERS * days);
         highest_of::<Quarter, Kw>(month)
+    }
+
+    // The highest kW of a day's quarters from a place on.
+    pub(crate) fn day_peak(&self, first: usize) -> u32
+        requires { first + 96 ≤ length self.now.quarters.now }
+        ensures counted { result ≡ top (map kw_of (take 96 (drop first (map reading_of self.now.quarters.now)))) }
+        ensures within { result ≤ most_demand }
+    {
+        highest_of::<Quarter, Kw>(&self.quarters[first..first + DAY_QUARTERS])
+    }
+
+    // The highest kW of the month at a place, of so many days, now that a part of it was written over:
+    // of what it was, and what that of the part was before and is. Only a part that lost the month's
+    // highest has the month searched again.
+    pub(crate) fn peak_after(
+        &self,
+        k: usize,
+        days: usize,
+        kept: u32,
+        before: u32,
+        posted: u32,
+    ) -> u32
+        requires in_bounds { 2976 * k + 96 * days ≤ length self.now.quarters.now }
+        requires limited { (kept ≤ most_demand) × (posted ≤ most_demand) }
+        requires over { kept ≤ posted → peak_in self.now.quarters.now k days ≡ posted }
+        requires under { before < kept → posted < kept → peak_in self.now.quarters.now k days ≡ kept }
+        ensures counted { result ≡ peak_in self.now.quarters.now k days }
+        ensures within { result ≤ most_demand }
+    {
+        if posted >= kept {
+            posted
+        } else if before < kept {
+            kept
+        } else {
+            self.peak(k, days)
+        }
     }
 
     // A day's readings, over the quarters from a place on.

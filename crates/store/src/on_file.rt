@@ -26,14 +26,22 @@ impl TryFrom<Reading> for Quarter {
         if !reading.within() {
             return Err(OutsideLimit { place: 0 });
         }
-        Ok(Quarter {
-            kw: reading.kw,
-            kva: reading.kva,
-        })
+        Ok(Quarter::holding(reading))
     }
 }
 
 impl Quarter {
+    // With a reading that was found within its limits.
+    pub(crate) fn holding(reading: Reading) -> Quarter
+        requires { reading_within reading ≡ true }
+        ensures { reading_of result ≡ Some reading }
+    {
+        Quarter {
+            kw: reading.kw,
+            kva: reading.kva,
+        }
+    }
+
     pub(crate) fn reading(&self) -> Option<Reading>
         ensures { result ≡ reading_of self.now }
     {

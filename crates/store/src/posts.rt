@@ -75,16 +75,9 @@ impl Store<'_> {
         if quarter < DAY_QUARTERS * days {
             let first = MONTH_QUARTERS * k;
             let old = self.memory.quarters[first + quarter];
-            let peak = self.records[RATCHET + k].peak;
+            let kept = self.records[RATCHET + k].peak;
             self.memory.quarters[first + quarter] = posted;
-            // only where the highest reading was lowered has the month to be searched again
-            let peak = if reading.kw >= peak {
-                reading.kw
-            } else if old.kw() < peak {
-                peak
-            } else {
-                self.memory.peak(k, days)
-            };
+            let peak = self.memory.peak_after(k, days, kept, old.kw(), reading.kw);
             self.records[RATCHET + k].peak = peak;
         }
         Ok(())
@@ -104,8 +97,11 @@ impl Store<'_> {
         let days = self.days_of(k);
         if day < days {
             let first = MONTH_QUARTERS * k + DAY_QUARTERS * day;
+            let before = self.memory.day_peak(first);
+            let kept = self.records[RATCHET + k].peak;
             self.memory.post(first, posted);
-            let peak = self.memory.peak(k, days);
+            let highest = self.memory.day_peak(first);
+            let peak = self.memory.peak_after(k, days, kept, before, highest);
             self.records[RATCHET + k].peak = peak;
         }
         Ok(())

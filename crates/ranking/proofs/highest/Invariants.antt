@@ -1,6 +1,10 @@
-use Rattle.std.specs.Prelude.{◌≡◌, MatchOption}
+use Rattle.std.proofs.Common.{◌+◌, ◌-◌, ◌<◌, length}
 use Rattle.std.specs.List.{IsFirstBest}
 use Rattle.ranking.proofs.highest.Given as goal
 
-abbrev pub invariant-loop-i : goal.invariant-loop-i
-invariant-loop-i g l = MatchOption l.best (l.i ≡ 0) (λ best. IsFirstBest g.K.Order.outranks l.run l.i best)
+-- none of those looked at is above it, and it is above each before it
+abbrev pub invariant-loop-next : goal.invariant-loop-next
+invariant-loop-next g l = (l.best < length l.run) × IsFirstBest g.K.Order.outranks l.run (l.best + 1) l.best
+
+abbrev pub decreases-loop-next : goal.decreases-loop-next
+decreases-loop-next g l = length l.run - l.best
