@@ -4,3 +4,5 @@ pub mod Verbs
 pub mod Calls
 pub mod Drafts
 pub mod Lines
+pub mod Spoken
+pub mod Written
