@@ -16,12 +16,12 @@ use Rattle.journal.specs.Said.{all_said, figure_of, is_slash, number_of, reading
 use Rattle.journal.specs.Spoken.{are_words, is_plain, is_word, reading_text, spoken}
 use Rattle.journal.proofs.Numbers.{figure_said, number_said}
 
-and_yes : (a b : Bool) → a ≡ true → b ≡ true → (a && b) ≡ true
+pub and_yes : (a b : Bool) → a ≡ true → b ≡ true → (a && b) ≡ true
 and_yes true true p q = refl
 and_yes true false p q = q
 and_yes false b p q = p
 
-and_both : (a b : Bool) → (a && b) ≡ true → (a ≡ true) × (b ≡ true)
+pub and_both : (a b : Bool) → (a && b) ≡ true → (a ≡ true) × (b ≡ true)
 and_both true b p = (refl, p)
 and_both false b p = cc
 
@@ -72,7 +72,7 @@ figure_again (negsuc n) fits =
     sym (figure_said {E = Unit {0}} (45 ∷ decimal (suc n)) (Ok (negsuc n)) (rw value ((numeral, fits), refl)))
 
 -- a list at the first item that passes
-none_of : (ℕ → Bool) → List ℕ → Type 0
+unfoldable pub none_of : (ℕ → Bool) → List ℕ → Type 0
 none_of p [] = Unit {0}
 none_of p (x ∷ xs) = (p x ≡ false) × none_of p xs
 
@@ -80,6 +80,16 @@ first_at : (p : ℕ → Bool) (xs : List ℕ) (y : ℕ) (ys : List ℕ) → none
 unfolding none_of
 first_at p [] y ys none here = rw here refl
 first_at p (x ∷ xs) y ys none here = rw none.0 (omega (arith, first_at p xs y ys none.1 here))
+
+pub first_all : (p : ℕ → Bool) (xs : List ℕ) → none_of p xs → position_or_len p xs ≡ length xs
+unfolding none_of
+first_all p [] none = refl
+first_all p (x ∷ xs) none = rw none.0 (omega (arith, first_all p xs none.1))
+
+pub none_append : (p : ℕ → Bool) (xs ys : List ℕ) → none_of p xs → none_of p ys → none_of p (xs ++ ys)
+unfolding none_of
+none_append p [] ys none more = more
+none_append p (x ∷ xs) ys none more = (none.0, none_append p xs ys none.1 more)
 
 before_at : (p : ℕ → Bool) (xs : List ℕ) (y : ℕ) (ys : List ℕ) → none_of p xs → p y ≡ true → before_first p (xs ++ (y ∷ ys)) ≡ xs
 before_at p xs y ys none here = rw (first_at p xs y ys none here) (grind (arith, common_steps))

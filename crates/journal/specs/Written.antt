@@ -19,12 +19,12 @@ use Rattle.journal.specs.declared.verb.Verb.TheVariants.{Memory, Rate, Rider, Op
 abbrev pub figures_text : List ℤ → List (List ℕ)
 figures_text figures = map signed_decimal figures
 
-abbrev pub dts_text : DtsDraft → List (List ℕ)
-dts_text d = figures_text (d.system_demand ∷ d.system_energy ∷ d.delivery_demand ∷ d.delivery_fixed ∷ d.operating_reserve ∷ d.voltage_control ∷ d.other_support ∷ d.power_factor ∷ [])
+abbrev pub dts_figures : DtsDraft → List ℤ
+dts_figures d = d.system_demand ∷ d.system_energy ∷ d.delivery_demand ∷ d.delivery_fixed ∷ d.operating_reserve ∷ d.voltage_control ∷ d.other_support ∷ d.power_factor ∷ []
 
 abbrev pub rate_text : RateDraft → List (List ℕ)
-rate_text (Dts d) = codes "dts" ∷ dts_text d
-rate_text (Gts d) = codes "gts" ∷ dts_text d
+rate_text (Dts d) = codes "dts" ∷ figures_text (dts_figures d)
+rate_text (Gts d) = codes "gts" ∷ figures_text (dts_figures d)
 rate_text (Xts d) = codes "xts" ∷ figures_text (d.interconnection ∷ d.operating_reserve ∷ d.voltage_control ∷ d.other_support ∷ [])
 rate_text (Dos d) = codes "dos" ∷ figures_text (d.opportunity_capacity ∷ d.loss_factor ∷ d.energy ∷ d.transaction_fee ∷ [])
 rate_text (Sts d) = codes "sts" ∷ figures_text (d.loss_factor ∷ d.unit_rating ∷ d.unit_connection ∷ [])

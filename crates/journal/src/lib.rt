@@ -10,6 +10,7 @@ mod reader;
 mod said;
 mod verb;
 mod words;
+mod writer;
 
 pub use call::{Call, Posts};
 pub use misread::Misread;
