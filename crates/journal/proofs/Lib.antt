@@ -2,3 +2,4 @@ pub mod Texts
 pub mod Numbers
 pub mod Again
 pub mod LineTexts
+pub mod VerbWords

@@ -1,6 +1,7 @@
 pub mod Words
 pub mod Said
 pub mod Verbs
+pub mod Misreadings
 pub mod Calls
 pub mod Drafts
 pub mod Lines

@@ -1,6 +1,11 @@
 // Why a line is not read as a call.
+ghost use Rattle.std.specs.Prelude.{Some};
+ghost use Rattle.journal.specs.Misreadings.{misread_text};
+
 use crate::verb::Verb;
 use std::alloc::AllocError;
+use std::error::Error;
+use std::fmt;
 
 #[derive(Clone, Copy, PartialEq, Eq, Debug)]
 pub enum Misread {
@@ -21,3 +26,20 @@ impl From<AllocError> for Misread {
         Misread::OutOfMemory
     }
 }
+
+impl fmt::Display for Misread {
+    ghost output = { λ misread. Some (misread_text misread) };
+
+    fn fmt<W: fmt::Write>(&self, f: &mut fmt::Formatter<W>) -> fmt::Result {
+        match self {
+            Misread::OutOfMemory => f.write_str("out of memory"),
+            Misread::NoCall => f.write_str("no call begins so"),
+            Misread::Expected(verb) => {
+                let form = verb.form();
+                write!(f, "expected: {form}")
+            }
+        }
+    }
+}
+
+impl Error for Misread {}

@@ -1,0 +1,8 @@
+// Tests of the journal's lines.
+
+#![tactic(auto)]
+
+#[cfg(test)]
+mod lines;
+#[cfg(test)]
+mod misread;
