@@ -12,7 +12,7 @@ use Rattle.std.proofs.lemmas.Int.{ints}
 use Rattle.std.proofs.lemmas.List.{map-append}
 use Rattle.std.proofs.lemmas.Str.Parse.{digit_from_value, without_leading_plus_none}
 use Rattle.store.specs.declared.reading.Reading.{Reading}
-use Rattle.journal.specs.Said.{all_said, figure_of, is_slash, number_of, reading_by, reading_of}
+use Rattle.journal.specs.Said.{all_said, figure_of, number_of, reading_by, reading_of}
 use Rattle.journal.specs.Spoken.{are_words, is_plain, is_word, reading_text, spoken}
 use Rattle.journal.proofs.Numbers.{figure_said, number_said}
 
@@ -101,6 +101,9 @@ drop_at (x ∷ xs) y ys = drop_at xs y ys
 after_at : (p : ℕ → Bool) (xs : List ℕ) (y : ℕ) (ys : List ℕ) → none_of p xs → p y ≡ true → after_first p (xs ++ (y ∷ ys)) ≡ ys
 after_at p xs y ys none here =
     ap (λ at. drop (at + 1) (xs ++ (y ∷ ys))) (first_at p xs y ys none here) ∙ ap (λ at. drop at (xs ++ (y ∷ ys))) (add-one (length xs)) ∙ drop_at xs y ys
+
+abbrev is_slash : ℕ → Bool
+is_slash byte = byte == 47
 
 no_slash : (ds : List ℕ) → AllDigits 10 ds → none_of is_slash ds
 unfolding none_of

@@ -3,6 +3,7 @@ pub mod Said
 pub mod Verbs
 pub mod Misreadings
 pub mod Calls
+pub mod Posts
 pub mod Drafts
 pub mod Lines
 pub mod Spoken

@@ -6,6 +6,7 @@ mod call;
 mod counted;
 mod drafts;
 mod misread;
+mod post;
 mod reader;
 mod said;
 mod verb;
@@ -14,5 +15,6 @@ mod writer;
 
 pub use call::{Call, Posts};
 pub use misread::Misread;
+pub use post::Post;
 pub use reader::read;
 pub use verb::Verb;

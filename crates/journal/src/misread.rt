@@ -2,6 +2,7 @@
 ghost use Rattle.std.specs.Prelude.{Some};
 ghost use Rattle.journal.specs.Misreadings.{misread_text};
 
+use crate::call::Posts;
 use crate::verb::Verb;
 use std::alloc::AllocError;
 use std::error::Error;
@@ -14,6 +15,8 @@ pub enum Misread {
     NoCall,
     // the words after it are not those of the call
     Expected(Verb),
+    // the line of a file that is loaded is none of its posts
+    NoPost(Posts),
 }
 
 impl From<AllocError> for Misread {
@@ -38,6 +41,9 @@ impl fmt::Display for Misread {
                 let form = verb.form();
                 write!(f, "expected: {form}")
             }
+            Misread::NoPost(Posts::Readings) => f.write_str("expected: QUARTER,KW,KVA"),
+            Misread::NoPost(Posts::Prices) => f.write_str("expected: HOUR,CENTS"),
+            Misread::NoPost(Posts::Schedule) => f.write_str("expected: HOUR,KW"),
         }
     }
 }
