@@ -6,3 +6,5 @@
 mod lines;
 #[cfg(test)]
 mod misread;
+#[cfg(test)]
+mod posts;
