@@ -1,6 +1,6 @@
 -- The words of a line that was written are those that it was written of.
-use Rattle.std.proofs.Common.{◌≡◌, ℕ, zero, suc, ◌<◌, ◌==◌, ◌++◌, Bool, true, false, not, ◌&&◌, List, [], ◌∷◌, length, get_or, take, refl, sym, ap, ◌∙◌, append-nil, arith, rules}
-use Rattle.std.specs.List.{All, before_first, position_or_len}
+use Rattle.std.proofs.Common.{◌≡◌, ℕ, zero, suc, ◌==◌, ◌++◌, Bool, true, false, not, List, [], ◌∷◌, length, take, refl, ap, ◌∙◌, append-nil, arith}
+use Rattle.std.specs.List.{All}
 use Rattle.std.proofs.lemmas.Bool.{ltb-true}
 use Rattle.std.proofs.lemmas.List.{take_all}
 use Rattle.journal.specs.Spoken.{are_words, is_plain, is_word, spoken}

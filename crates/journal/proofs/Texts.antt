@@ -1,6 +1,6 @@
 -- The words of a text, one after another.
-use Rattle.std.proofs.Common.{◌≡◌, ℕ, Bool, ◌==◌, ◌++◌, ◌<◌, true, false, cond, List, [], ◌∷◌, length, get_or, nat_lt, Option, Some, None, Bor, lit<, refl, sym, ap, subst, ◌∙◌, arith, rules}
-use Rattle.std.specs.List.{after_first, before_first, filter, position_or_len, slice_split, All}
+use Rattle.std.proofs.Common.{◌≡◌, ℕ, Bool, ◌==◌, ◌++◌, ◌<◌, false, cond, List, [], ◌∷◌, length, nat_lt, Option, Some, None, Bor, lit<, refl, sym, ap, ◌∙◌, arith}
+use Rattle.std.specs.List.{after_first, before_first, filter, position_or_len, All}
 use Rattle.std.proofs.lemmas.List.Splits.{slice_split_at, slice_split_first, slice_split_none}
 use Rattle.std.proofs.lemmas.List.Sums.{fails_before_first}
 use Rattle.std.proofs.lemmas.Str.Pattern.{IsSplitOnceResult, split_once_first}

@@ -1,7 +1,6 @@
 -- What a misreading is in print.
 use Rattle.std.specs.Prelude.{ℕ, List, ◌++◌, codes}
 use Rattle.journal.specs.Verbs.{verb_form}
-use Rattle.journal.specs.declared.call.Posts.{Posts}
 use Rattle.journal.specs.declared.call.Posts.TheVariants.{Readings, Prices, Schedule}
 use Rattle.journal.specs.declared.misread.Misread.{Misread}
 use Rattle.journal.specs.declared.misread.Misread.TheVariants.{OutOfMemory, NoCall, Expected, NoPost}

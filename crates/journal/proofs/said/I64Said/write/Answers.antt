@@ -1,4 +1,4 @@
-use Rattle.std.proofs.Common.{◌≡◌, rules, arith, w64, SFits}
+use Rattle.std.proofs.Common.{rules, arith, w64, SFits}
 use Rattle.std.proofs.lemmas.Grind.{common_steps}
 use Rattle.journal.proofs.Again.{figure_again, figure_word}
 use Rattle.journal.proofs.said.I64Said.write.Goals as goal

@@ -1,4 +1,4 @@
-use Rattle.std.proofs.Common.{◌≡◌, ◌^◌, ◌<◌, rules, arith}
+use Rattle.std.proofs.Common.{◌^◌, ◌<◌, rules, arith}
 use Rattle.std.proofs.lemmas.Grind.{common_steps}
 use Rattle.journal.proofs.Again.{reading_again, reading_word}
 use Rattle.journal.proofs.said.ReadingSaid.write.Goals as goal

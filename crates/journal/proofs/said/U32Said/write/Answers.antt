@@ -1,4 +1,4 @@
-use Rattle.std.proofs.Common.{◌≡◌, ◌^◌, ◌<◌, rules, arith}
+use Rattle.std.proofs.Common.{◌^◌, ◌<◌, rules, arith}
 use Rattle.std.proofs.lemmas.Grind.{common_steps}
 use Rattle.journal.proofs.Again.{number_again, number_word}
 use Rattle.journal.proofs.said.U32Said.write.Goals as goal
