@@ -1,16 +1,16 @@
 -- What `parse` gives is what a word says.
-use Rattle.std.proofs.Common.{◌≡◌, ℕ, ◌-◌, ◌^◌, ◌<◌, ◌≤◌, Bool, true, false, ◌&&◌, cond, List, length, ℤ, pos, neg_ℤ, nat_le, nat_lt, Option, Some, None, Bor, MatchOption, Result, lit<, Ok, Err, refl, sym, ap, ◌∙◌, arith, rules, w64, SFits, T}
+use Rattle.std.proofs.Common.{◌≡◌, ℕ, ◌-◌, ◌^◌, ◌<◌, ◌==◌, Bool, true, false, cond, List, length, ℤ, pos, neg_ℤ, nat_le, nat_lt, Option, Some, None, Bor, Result, Ok, Err, refl, arith, w64, SFits}
 use Rattle.std.specs.Bool.{Decides}
 use Rattle.std.specs.Result.{OkIff, result_ok}
 use Rattle.std.specs.Str.{all_ascii_digits}
-use Rattle.std.specs.Str.Parse.{AllDigits, IsNumeral, ParsesSigned, ParsesUnsigned, digits_value, signed_digits_value, starts_with_minus, without_leading_plus, without_leading_sign}
+use Rattle.std.specs.Str.Parse.{IsNumeral, ParsesSigned, ParsesUnsigned, digits_value, signed_digits_value, starts_with_minus, without_leading_plus, without_leading_sign}
 use Rattle.std.proofs.lemmas.Bool.{le-leb, leb-true}
 use Rattle.std.proofs.lemmas.Bool.Decides.{Decides-and, Decides-ltb, nat_tests}
 use Rattle.std.proofs.lemmas.Int.{ints}
 use Rattle.std.proofs.lemmas.Str.Parse.{IsNumeralModel, numerals_by_value, tells_all_ascii_digits}
-use Rattle.std.specs.List.{after_first, before_first, position_or_len}
+use Rattle.std.specs.List.{position_or_len}
 use Rattle.std.proofs.lemmas.Str.Pattern.{IsSplitOnceResult, split_once_first}
-use Rattle.journal.specs.Said.{are_digits, figure_of, is_slash, number_of, reading_by, reading_of}
+use Rattle.journal.specs.Said.{are_digits, figure_of, cut_at, number_of}
 
 own : IsNumeralModel (λ ds. all_ascii_digits ds ≡ true) (digits_value 10)
 own = numerals_by_value _ tells_all_ascii_digits
@@ -39,15 +39,14 @@ figure_said word r parses =
     let digits = without_leading_sign word in
     ok_where r (signed_digits_value 10 word) _ (Decides-and _ _ (digits_decided digits) (figure_fits (starts_with_minus word) (digits_value 10 digits))) parses
 
-pub reading_cut : (word : List ℕ) (r : Option (Bor (List ℕ) × Bor (List ℕ))) → IsSplitOnceResult 47 word r → (cut : Bor (List ℕ) × Bor (List ℕ)) → r ≡ Some cut → reading_by (number_of cut.0.now) (number_of cut.1.now) ≡ reading_of word
-unfolding reading_of
-reading_cut word r split cut is =
-    let (here, front, after) = rw is at (split_once_first 47 word r split (lit< tt)) in
-    rw (front, after, (Decides-ltb (position_or_len is_slash word) (length word)).1 here) refl
+-- what `split_once` gives is a cut
+pub cut_some : {X : Type 0} (byte : ℕ) (made : List ℕ → List ℕ → Option X) (text : List ℕ) (r : Option (Bor (List ℕ) × Bor (List ℕ))) → IsSplitOnceResult byte text r → byte < 128 → (cut : Bor (List ℕ) × Bor (List ℕ)) → r ≡ Some cut → made cut.0.now cut.1.now ≡ cut_at byte made text
+cut_some byte made text r split ascii cut is =
+    let (here, front, after) = rw is at (split_once_first byte text r split ascii) in
+    rw (front, after, (Decides-ltb (position_or_len (λ b. b == byte) text) (length text)).1 here) refl
 
-pub reading_whole : (word : List ℕ) (r : Option (Bor (List ℕ) × Bor (List ℕ))) → IsSplitOnceResult 47 word r → r ≡ None → reading_of word ≡ None
-unfolding reading_of
-reading_whole word r split is =
-    let none = rw is at (split_once_first 47 word r split (lit< tt)) in
-    let past : nat_lt (position_or_len is_slash word) (length word) ≡ false = grind (arith, nat_tests) in
+pub cut_none : {X : Type 0} (byte : ℕ) (made : List ℕ → List ℕ → Option X) (text : List ℕ) (r : Option (Bor (List ℕ) × Bor (List ℕ))) → IsSplitOnceResult byte text r → byte < 128 → r ≡ None → cut_at byte made text ≡ None
+cut_none byte made text r split ascii is =
+    let none = rw is at (split_once_first byte text r split ascii) in
+    let past : nat_lt (position_or_len (λ b. b == byte) text) (length text) ≡ false = grind (arith, nat_tests) in
     rw past refl

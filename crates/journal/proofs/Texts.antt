@@ -1,13 +1,13 @@
 -- The words of a text, one after another.
-use Rattle.std.proofs.Common.{◌≡◌, ℕ, Bool, ◌==◌, ◌<◌, true, false, cond, List, [], ◌∷◌, length, get_or, nat_lt, Option, Some, None, Bor, lit<, refl, sym, ap, subst, ◌∙◌, arith, rules}
-use Rattle.std.specs.List.{after_first, before_first, filter, position_or_len, slice_split, All}
-use Rattle.std.proofs.lemmas.List.Splits.{slice_split_first, slice_split_none}
+use Rattle.std.proofs.Common.{◌≡◌, ℕ, Bool, ◌==◌, ◌++◌, ◌<◌, false, cond, List, [], ◌∷◌, length, nat_lt, Option, Some, None, Bor, lit<, refl, sym, ap, ◌∙◌, arith}
+use Rattle.std.specs.List.{after_first, before_first, filter, position_or_len, All}
+use Rattle.std.proofs.lemmas.List.Splits.{slice_split_at, slice_split_first, slice_split_none}
 use Rattle.std.proofs.lemmas.List.Sums.{fails_before_first}
 use Rattle.std.proofs.lemmas.Str.Pattern.{IsSplitOnceResult, split_once_first}
 use Rattle.std.proofs.lemmas.Bool.Decides.{nat_tests}
 use Rattle.journal.specs.Words.{words_of}
 
-abbrev is_space : ℕ → Bool
+abbrev pub is_space : ℕ → Bool
 is_space byte = byte == 32
 
 abbrev kept : List ℕ → List (List ℕ) → List (List ℕ)
@@ -50,3 +50,13 @@ words_cut text r split cut is =
 -- a text with no space is one word, or none
 pub words_left : (text : List ℕ) (r : Option (Bor (List ℕ) × Bor (List ℕ))) → IsSplitOnceResult 32 text r → r ≡ None → 0 < length text → words_of text ≡ text ∷ words_of []
 words_left text r split is some = last_word text (rw is at (split_once_first 32 text r split (lit< tt))) some
+
+-- one word, and one before a space
+pub one_word : (word : List ℕ) → 0 < length word → All (λ byte. is_space byte ≡ false) word → words_of word ≡ word ∷ []
+unfolding words_of
+one_word word some none = ap (filter (λ part. nat_lt 0 (length part))) (slice_split_none is_space word none) ∙ kept_some word [] some
+
+pub word_then : (word rest : List ℕ) → 0 < length word → All (λ byte. is_space byte ≡ false) word → words_of (word ++ (32 ∷ rest)) ≡ word ∷ words_of rest
+unfolding words_of
+word_then word rest some none =
+    ap (filter (λ part. nat_lt 0 (length part))) (slice_split_at is_space word 32 rest none refl) ∙ kept_some word (words_of rest) some

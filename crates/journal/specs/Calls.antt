@@ -1,7 +1,7 @@
 -- What the words of a call say.
-use Rattle.std.specs.Prelude.{ℕ, ◌==◌, cond, List, [], ◌∷◌, length, Option, Some, None, slice_index}
+use Rattle.std.specs.Prelude.{ℕ, ◌==◌, cond, List, length, Option, Some, None, slice_index}
 use Rattle.journal.specs.declared.call.Call.{Call}
-use Rattle.journal.specs.declared.call.Call.TheVariants.{Memory as TheMemory, Rate as TheRate, Rider as TheRider, Open as TheOpen, Start as TheStart, Reading as TheReading, Readings as TheReadings, Day as TheDay, Price as ThePrice, Prices as ThePrices, Schedule as TheSchedule, Schedules as TheSchedules, Load as TheLoad, Bill as TheBill, TrueUp as TheTrueUp, Finalise as TheFinalise, Due as TheDue, Total as TheTotal, Text as TheText, Ledger as TheLedger, Statement as TheStatement}
+use Rattle.journal.specs.declared.call.Call.TheVariants.{Memory as TheMemory, Start as TheStart, Reading as TheReading, Readings as TheReadings, Price as ThePrice, Prices as ThePrices, Schedule as TheSchedule, Schedules as TheSchedules, Bill as TheBill, TrueUp as TheTrueUp, Finalise as TheFinalise, Due as TheDue, Total as TheTotal, Text as TheText, Ledger as TheLedger, Statement as TheStatement}
 use Rattle.journal.specs.declared.verb.Verb.{Verb}
 use Rattle.journal.specs.declared.verb.Verb.TheVariants.{Memory, Rate, Rider, Open, Start, Reading, Readings, Day, Price, Prices, Schedule, Schedules, Load, Bill, TrueUp, Finalise, Due, Total, Text, Ledger, Statement}
 

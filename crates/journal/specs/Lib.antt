@@ -1,6 +1,10 @@
 pub mod Words
 pub mod Said
 pub mod Verbs
+pub mod Misreadings
 pub mod Calls
+pub mod Posts
 pub mod Drafts
 pub mod Lines
+pub mod Spoken
+pub mod Written

@@ -11,7 +11,7 @@ use Rattle.journal.specs.declared.call.Call.TheVariants.{Rate as TheRate, Rider 
 use Rattle.journal.specs.declared.call.Posts.{Posts}
 use Rattle.journal.specs.declared.call.Posts.TheVariants.{Readings as ThePostedReadings, Prices as ThePostedPrices, Schedule as ThePostedSchedule}
 use Rattle.journal.specs.declared.misread.Misread.{Misread}
-use Rattle.journal.specs.declared.misread.Misread.TheVariants.{OutOfMemory, NoCall, Expected}
+use Rattle.journal.specs.declared.misread.Misread.TheVariants.{OutOfMemory, NoCall, Expected, NoPost}
 use Rattle.journal.specs.declared.verb.Verb.{Verb}
 use Rattle.journal.specs.declared.verb.Verb.TheVariants.{Memory, Rate, Rider, Open, Start, Reading as VerbReading, Readings, Day, Price, Prices, Schedule, Schedules, Load, Bill, TrueUp, Finalise, Due, Total, Text, Ledger, Statement}
 
@@ -126,3 +126,4 @@ Gives (Ok call) wanted = wanted ≡ Ok (option_map told call)
 Gives (Err OutOfMemory) wanted = Unit {0}
 Gives (Err NoCall) wanted = wanted ≡ Err NoCall
 Gives (Err (Expected verb)) wanted = wanted ≡ Err (Expected verb)
+Gives (Err (NoPost what)) wanted = wanted ≡ Err (NoPost what)

@@ -26,8 +26,11 @@ figure_of word =
     let digits = without_leading_sign word in
     cond (are_digits digits && nat_le (digits_value 10 digits) (most_figure word)) (Some (signed_digits_value 10 word)) None
 
-abbrev pub is_slash : ℕ → Bool
-is_slash byte = byte == 47
+-- what is made of the texts before and after the first of this byte, where there is one
+abbrev pub cut_at : {X : Type 0} → ℕ → (List ℕ → List ℕ → Option X) → List ℕ → Option X
+cut_at byte made text =
+    let here : ℕ → Bool = λ b. b == byte in
+    cond (nat_lt (position_or_len here text) (length text)) (made (before_first here text) (after_first here text)) None
 
 -- a reading of its kW and its kVA, where both are numbers
 abbrev pub reading_by : Option ℕ → Option ℕ → Option Reading
@@ -35,8 +38,7 @@ reading_by kw kva = option_and_then (λ kw. option_map (λ kva. record { kw = kw
 
 -- a reading: its kW, a slash, and its kVA
 unfoldable pub reading_of : List ℕ → Option Reading
-reading_of word =
-    cond (nat_lt (position_or_len is_slash word) (length word)) (reading_by (number_of (before_first is_slash word)) (number_of (after_first is_slash word))) None
+reading_of word = cut_at 47 (λ kw kva. reading_by (number_of kw) (number_of kva)) word
 
 -- what each word says, where all of them say something
 abbrev pub all_said : {X : Type 0} → (List ℕ → Option X) → List (List ℕ) → Option (List X)

@@ -6,12 +6,15 @@ mod call;
 mod counted;
 mod drafts;
 mod misread;
+mod post;
 mod reader;
 mod said;
 mod verb;
 mod words;
+mod writer;
 
 pub use call::{Call, Posts};
 pub use misread::Misread;
+pub use post::Post;
 pub use reader::read;
 pub use verb::Verb;

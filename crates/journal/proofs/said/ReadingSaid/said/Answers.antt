@@ -1,9 +1,14 @@
-use Rattle.std.proofs.Common.{sym, ◌∙◌, rules}
-use Rattle.journal.proofs.Numbers.{reading_cut, reading_whole}
+use Rattle.std.proofs.Common.{sym, ◌∙◌, lit<}
+use Rattle.journal.specs.Said.{number_of, reading_by, reading_of}
+use Rattle.journal.proofs.Numbers.{cut_none, cut_some}
 use Rattle.journal.proofs.said.ReadingSaid.said.Goals as goal
 
 pub returns-in-Some : goal.returns-in-Some
-returns-in-Some c = c.reading_by.ensures ∙ reading_cut c.args.word.now c.split_once.result c.split_once.ensures.cases _ c.in-Some.is
+unfolding reading_of
+returns-in-Some c =
+    c.reading_by.ensures ∙ cut_some 47 (λ kw kva. reading_by (number_of kw) (number_of kva)) c.args.word.now c.split_once.result c.split_once.ensures.cases (lit< tt) _ c.in-Some.is
 
 pub returns-in-None : goal.returns-in-None
-returns-in-None c = sym (reading_whole c.args.word.now c.split_once.result c.split_once.ensures.cases c.in-None.is)
+unfolding reading_of
+returns-in-None c =
+    sym (cut_none 47 (λ kw kva. reading_by (number_of kw) (number_of kva)) c.args.word.now c.split_once.result c.split_once.ensures.cases (lit< tt) c.in-None.is)
