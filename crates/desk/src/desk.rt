@@ -2,11 +2,11 @@
 use crate::loading::load;
 use crate::schedule::{Chosen, Unchosen};
 use crate::statement::Statement;
-use crate::task::{Run, Task};
+use crate::task::{Run, Task, posting};
 use anyhow::Result;
 use audit::{Answer, Request, perform};
 use book::Book;
-use journal::Call;
+use journal::{Call, Post};
 use ledger::MOST_BYTES;
 use std::alloc::Global;
 use std::io::{self, Write};
@@ -51,8 +51,8 @@ impl<'b> Desk<'b> {
             Task::Ask(request) => self.ask(request, out)?,
             Task::Post(run) => write_count(out, self.post_run(run), run.count())?,
             Task::Load { what, month, file } => {
-                let posts = load(place, what, month, file)?;
-                write_count(out, self.post_list(&posts), posts.len() as u64)?;
+                let posts = load(place, what, file)?;
+                write_count(out, self.post_list(month, &posts), posts.len() as u64)?;
             }
             Task::Text(entry) => self.write_text(entry, out)?,
             Task::Ledger => self.write_ledger(out)?,
@@ -83,14 +83,14 @@ impl<'b> Desk<'b> {
     // Posts place after place, up to the first that is refused.
     fn post_run(&mut self, run: Run) -> Result<(), Refusal> {
         for place in run.first..=run.last {
-            self.post(run.value.post(run.month, place))?;
+            self.post(run.at(place))?;
         }
         Ok(())
     }
 
-    fn post_list(&mut self, posts: &[Request<'_>]) -> Result<(), Refusal> {
+    fn post_list(&mut self, month: u32, posts: &[Post]) -> Result<(), Refusal> {
         for post in posts {
-            self.post(*post)?;
+            self.post(posting(month, *post))?;
         }
         Ok(())
     }

@@ -14,15 +14,17 @@ pub(crate) enum Unread {
 impl fmt::Display for Unread {
     fn fmt<W: fmt::Write>(&self, f: &mut fmt::Formatter<W>) -> fmt::Result {
         match self {
-            Unread::Misread(Misread::OutOfMemory) => f.write_str("out of memory"),
             Unread::Misread(Misread::NoCall) => {
-                f.write_str("expected a call; desk --help has them all")
+                f.write_str("expected: a call; desk --help has them all")
             }
-            Unread::Misread(Misread::Expected(verb)) => write!(f, "expected {}", verb.form()),
+            Unread::Misread(misread) => misread.fmt(f),
             Unread::LateMemory => {
-                f.write_str("expected a call of the book; memory stands before the first of them")
+                f.write_str("expected: a call of the book; memory stands before the first of them")
             }
-            Unread::Code(verb) => write!(f, "expected {}, a code of 8 bytes", verb.form()),
+            Unread::Code(verb) => {
+                let form = verb.form();
+                write!(f, "expected: {form}, with a code of 8 bytes")
+            }
         }
     }
 }

@@ -1,11 +1,12 @@
 // What the desk does at a call of the journal.
 use crate::misread::Unread;
 use audit::Request;
-use journal::{Call, Posts, Verb};
+use journal::{Call, Post, Posts, Verb};
 use piles::{RateDraft, RiderDraft};
 use store::Reading;
 
-// What is posted to a place of a month: a quarter's reading, an hour's price or its scheduled kW.
+// What is posted to each place of a month: a reading to its quarters, a price or scheduled kW to
+// its hours.
 #[derive(Clone, Copy)]
 pub(crate) enum Value {
     Reading(Reading),
@@ -14,23 +15,14 @@ pub(crate) enum Value {
 }
 
 impl Value {
-    pub(crate) fn post(self, month: u32, place: u32) -> Request<'static> {
+    fn at(self, place: u32) -> Post {
         match self {
-            Value::Reading(reading) => Request::PostReading {
-                month,
+            Value::Reading(reading) => Post::Reading {
                 quarter: place,
                 reading,
             },
-            Value::Price(price) => Request::PostPrice {
-                month,
-                hour: place,
-                price,
-            },
-            Value::Scheduled(kw) => Request::PostSchedule {
-                month,
-                hour: place,
-                kw,
-            },
+            Value::Price(cents) => Post::Price { hour: place, cents },
+            Value::Scheduled(kw) => Post::Scheduled { hour: place, kw },
         }
     }
 }
@@ -47,6 +39,27 @@ pub(crate) struct Run {
 impl Run {
     pub(crate) fn count(self) -> u64 {
         (u64::from(self.last) + 1).saturating_sub(self.first.into())
+    }
+
+    pub(crate) fn at(self, place: u32) -> Request<'static> {
+        posting(self.month, self.value.at(place))
+    }
+}
+
+// The post as a call of the book.
+pub(crate) fn posting(month: u32, post: Post) -> Request<'static> {
+    match post {
+        Post::Reading { quarter, reading } => Request::PostReading {
+            month,
+            quarter,
+            reading,
+        },
+        Post::Price { hour, cents } => Request::PostPrice {
+            month,
+            hour,
+            price: cents,
+        },
+        Post::Scheduled { hour, kw } => Request::PostSchedule { month, hour, kw },
     }
 }
 
@@ -105,9 +118,18 @@ impl<'c> Task<'c> {
                 quarter,
                 kw,
                 kva,
-            } => Task::Ask(Value::Reading(Reading { kw, kva }).post(month, quarter)),
-            Call::Price { month, hour, cents } => Task::Ask(Value::Price(cents).post(month, hour)),
-            Call::Schedule { month, hour, kw } => Task::Ask(Value::Scheduled(kw).post(month, hour)),
+            } => {
+                let reading = Reading { kw, kva };
+                Task::Ask(posting(month, Post::Reading { quarter, reading }))
+            },
+            Call::Price { month, hour, cents } => Task::Ask(posting(
+                month,
+                Post::Price { hour, cents },
+            )),
+            Call::Schedule { month, hour, kw } => Task::Ask(posting(
+                month,
+                Post::Scheduled { hour, kw },
+            )),
             Call::Readings {
                 month,
                 first,
