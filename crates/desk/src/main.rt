@@ -1,0 +1,94 @@
+// The desk: a book kept as a plain-text journal, which is read and performed line by line.
+
+#![tactic(auto)]
+
+mod desk;
+mod dollars;
+mod help;
+mod loading;
+mod meanings;
+mod misread;
+mod room;
+mod running;
+mod schedule;
+mod statement;
+mod task;
+
+use crate::desk::Place;
+use crate::running::run;
+use anyhow::{Context, Result, bail};
+use std::io::{self, BufWriter, Write};
+use std::process::ExitCode;
+use std::{env, fs};
+
+fn explain(rt: &HostRuntime, number: &str) -> Result<()> {
+    let meaning = number.parse().ok().and_then(meanings::meaning);
+    println!(rt;
+        "{}",
+        meaning.context("refusals are numbered from 1 to 19")?
+    )?;
+    Ok(())
+}
+
+// Performs a journal; what it answered before it stopped is written all the same.
+fn perform(rt: &HostRuntime, folder: &str, journal: &str) -> Result<()> {
+    let mut out = BufWriter::new(rt.alloc(), io::writer(rt))?;
+    let ended = run(Place { rt, folder }, journal, &mut out);
+    out.flush()?;
+    ended
+}
+
+// The folder of a file, with the slash after it; nothing where it has none.
+fn folder_of(path: &str) -> &str {
+    path.rfind('/').map_or("", |slash| &path[..=slash])
+}
+
+// What the desk is called for.
+#[derive(Drop)]
+enum Wanted {
+    Journal,
+    JournalIn(String),
+    Meaning(String),
+    Help,
+}
+
+fn read_words(rt: &HostRuntime) -> Result<Wanted> {
+    let mut words = env::args(rt)?.skip(1);
+    let Some(word) = words.next() else {
+        return Ok(Wanted::Journal);
+    };
+    let next = words.next();
+    if words.next().is_some() {
+        bail!("desk --help says how it is called");
+    }
+    match (word.as_str(), next) {
+        ("--help", None) => Ok(Wanted::Help),
+        ("--explain", Some(number)) => Ok(Wanted::Meaning(number)),
+        (_, None) => Ok(Wanted::JournalIn(word)),
+        _ => bail!("desk --help says how it is called"),
+    }
+}
+
+fn perform_file(rt: &HostRuntime, path: &str) -> Result<()> {
+    let journal = fs::read_to_string(rt, path).context(format_args!("cannot read {path}"))?;
+    perform(rt, folder_of(path), &journal)
+}
+
+fn answer(rt: &HostRuntime) -> Result<()> {
+    match read_words(rt)? {
+        Wanted::Journal => perform(rt, "", &io::read_to_string(rt.alloc(), rt.reader())?),
+        Wanted::JournalIn(path) => perform_file(rt, &path),
+        Wanted::Meaning(number) => explain(rt, &number),
+        Wanted::Help => Ok(print!(rt; "{}", help::HELP)?),
+    }
+}
+
+fn main(rt: HostRuntime) -> Result<ExitCode> {
+    match answer(&rt) {
+        Ok(()) => Ok(ExitCode::SUCCESS),
+        Err(error) => {
+            eprintln!(rt; "{error:#}")?;
+            Ok(ExitCode::FAILURE)
+        }
+    }
+}
