@@ -13,6 +13,8 @@ mod running;
 mod schedule;
 mod statement;
 mod task;
+#[cfg(test)]
+mod tests;
 
 use crate::desk::Place;
 use crate::running::run;

@@ -3,7 +3,6 @@
 
 #![tactic(auto)]
 
-mod figures;
 mod month;
 mod pricing;
 

@@ -1,8 +1,8 @@
 // A month of the table, and how it is read from its line:
 //
 //     C S P A H | COUNTxENERGY@PRICE[/SCHEDULED] .. | RATE | RIDER | ..
-use crate::figures::{read_rate, read_rider};
 use anyhow::{Context, Result, bail};
+use journal::{Call, read};
 use piles::{RateDraft, RiderDraft};
 use std::alloc::{AllocError, Global};
 use tariff::{HourRow, PlainFacts};
@@ -58,6 +58,24 @@ fn read_hours(alloc: Global, text: &str) -> Result<Vec<HourRow>> {
     Ok(hours)
 }
 
+// A rate is written as on a line of a journal, after its first word.
+fn read_rate(alloc: Global, text: &str) -> Result<RateDraft> {
+    let line = format!(in alloc; "rate {text}")?;
+    match read(alloc, &line)? {
+        Some(Call::Rate(draft)) => Ok(draft),
+        _ => bail!("no rate"),
+    }
+}
+
+// And so is a rider.
+fn read_rider(alloc: Global, text: &str) -> Result<RiderDraft> {
+    let line = format!(in alloc; "rider {text}")?;
+    match read(alloc, &line)? {
+        Some(Call::Rider(draft)) => Ok(draft),
+        _ => bail!("no rider"),
+    }
+}
+
 // None of an empty line, or of one that is only a comment.
 pub fn read_month(alloc: Global, line: &str) -> Result<Option<Month>> {
     let (text, _) = line.split_once('#').unwrap_or((line, ""));
@@ -67,10 +85,10 @@ pub fn read_month(alloc: Global, line: &str) -> Result<Option<Month>> {
     let mut parts = text.split('|');
     let facts = read_facts(&words(alloc, parts.next().context("no facts")?)?)?;
     let hours = read_hours(alloc, parts.next().context("no hours")?)?;
-    let rate = read_rate(&words(alloc, parts.next().context("no rate")?)?)?;
+    let rate = read_rate(alloc, parts.next().context("no rate")?)?;
     let mut riders = Vec::new(alloc);
     for part in parts {
-        riders.push(read_rider(&words(alloc, part)?)?)?;
+        riders.push(read_rider(alloc, part)?)?;
     }
     Ok(Some(Month {
         facts,
