@@ -66,7 +66,7 @@ fn read_words(rt: &HostRuntime) -> Result<Wanted> {
     match (word.as_str(), next) {
         ("--help", None) => Ok(Wanted::Help),
         ("--explain", Some(number)) => Ok(Wanted::Meaning(number)),
-        (_, None) => Ok(Wanted::JournalIn(word)),
+        (path, None) if !path.starts_with("--") => Ok(Wanted::JournalIn(word)),
         _ => bail!("desk --help says how it is called"),
     }
 }
