@@ -1,47 +1,74 @@
 // What `desk --help` prints.
+use journal::Verb;
+use std::io;
 
-pub(crate) const HELP: &str = "\
+const USAGE: &str = "\
 desk              reads a journal from standard input
 desk FILE         reads it from a file
 desk --explain N  prints what refusal N means
 desk --help       prints this
 
-One call a line, words apart by spaces; # begins a comment.
-
-The memory and the schedule come first:
-
-    memory MONTHS ENTRIES             as many as the book holds; 48 and 2000 if left out
-    rate dts [8 figures]              the schedule; published figures if left out, and DTS if
-    rate gts [8 figures]              there is no such line
-    rate xts [4 figures]
-    rate dos K L [h1 h2]
-    rate sts L M [u]
-    rider energy NUMBER RATE          piled upwards, in this order
-    rider percent NUMBER FACTOR
-    rider psc NUMBER [5 figures]
-
-The calls of the book:
-
-    open CODE C S [PEAK ..]           a code of 8 bytes, contract, substation total, carried peaks
-    start DAYS
-    reading MONTH QUARTER KW KVA
-    readings MONTH FIRST LAST KW KVA
-    day MONTH DAY CODE KW/KVA ..
-    price MONTH HOUR CENTS
-    prices MONTH FIRST LAST CENTS
-    schedule MONTH HOUR KW
-    schedules MONTH FIRST LAST KW
-    load readings MONTH FILE          lines of quarter,kW,kVA
-    load prices MONTH FILE            lines of hour,cents
-    load schedule MONTH FILE          lines of hour,kW
-    bill MONTH
-    true-up MONTH
-    finalise MONTH
-    due MONTH
-    total MONTH LINE
-    text ENTRY                        one entry, from 0
-    ledger                            all entries
-    statement MONTH                   a month for people
-
-Each call answers a line: ok, what it comes to, or refused NUMBER MONTH PLACE RIDER.
+A journal has one call a line, words apart by spaces; # begins a comment. Memory, rate and riders come
+first. Each call answers a line: ok and what it comes to, or refused NUMBER MONTH PLACE RIDER.
 ";
+
+// In the order in which a journal has use for them.
+const VERBS: [Verb; 21] = [
+    Verb::Memory,
+    Verb::Rate,
+    Verb::Rider,
+    Verb::Open,
+    Verb::Start,
+    Verb::Reading,
+    Verb::Readings,
+    Verb::Day,
+    Verb::Price,
+    Verb::Prices,
+    Verb::Schedule,
+    Verb::Schedules,
+    Verb::Load,
+    Verb::Bill,
+    Verb::TrueUp,
+    Verb::Finalise,
+    Verb::Due,
+    Verb::Total,
+    Verb::Text,
+    Verb::Ledger,
+    Verb::Statement,
+];
+
+fn note(verb: Verb) -> &'static str {
+    match verb {
+        Verb::Memory => "what the book has room for; 48 and 2000 where this is left out",
+        Verb::Rate => "what prices: DTS where this is left out, published figures where they are",
+        Verb::Rider => "laid over what is there already",
+        Verb::Open => "a code of 8 bytes, and the peaks of the months before, the latest first",
+        Verb::Start => "one month more; answers its number",
+        Verb::Reading => "a quarter's reading, the quarters counted from 0",
+        Verb::Readings => "the same reading for each quarter from the first to the last",
+        Verb::Day => "a day's 96 readings, the days counted from 0",
+        Verb::Price => "an hour's pool price in cents per MWh, the hours counted from 0",
+        Verb::Prices => "the same price for each hour from the first to the last",
+        Verb::Schedule => "an hour's scheduled kW",
+        Verb::Schedules => "the same scheduled kW for each hour from the first to the last",
+        Verb::Load => "a file with a post a line: QUARTER,KW,KVA or HOUR,CENTS or HOUR,KW",
+        Verb::Bill => "writes an entry for each line; answers how many",
+        Verb::TrueUp => "writes an entry for each line that differs; answers how many",
+        Verb::Finalise => "nothing more is posted to the month",
+        Verb::Due => "whether pricing the month now would alter a line",
+        Verb::Total => "what the month's entries for a line come to, in cents",
+        Verb::Text => "an entry of the ledger, counted from 0",
+        Verb::Ledger => "all entries, one a line",
+        Verb::Statement => "a month for people, in dollars and cents",
+    }
+}
+
+pub(crate) fn print_help(rt: &impl Print) -> io::Result<()> {
+    println!(rt; "{USAGE}")?;
+    for verb in VERBS.iter() {
+        let form = verb.form();
+        let note = note(*verb);
+        println!(rt; "    {form}\n        {note}")?;
+    }
+    Ok(())
+}

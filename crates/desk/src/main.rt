@@ -17,6 +17,7 @@ mod task;
 mod tests;
 
 use crate::desk::Place;
+use crate::help::print_help;
 use crate::running::run;
 use anyhow::{Context, Result, bail};
 use std::io::{self, BufWriter, Write};
@@ -81,7 +82,7 @@ fn answer(rt: &HostRuntime) -> Result<()> {
         Wanted::Journal => perform(rt, "", &io::read_to_string(rt.alloc(), rt.reader())?),
         Wanted::JournalIn(path) => perform_file(rt, &path),
         Wanted::Meaning(number) => explain(rt, &number),
-        Wanted::Help => Ok(print!(rt; "{}", help::HELP)?),
+        Wanted::Help => Ok(print_help(rt)?),
     }
 }
 
