@@ -10,11 +10,11 @@ use tariff::{HourRow, PlainFacts};
 // The numbers of a month as they are written, within their limits or not. The riders are piled
 // upwards.
 #[derive(Drop)]
-pub struct Month {
-    pub facts: PlainFacts,
-    pub hours: Vec<HourRow>,
-    pub rate: RateDraft,
-    pub riders: Vec<RiderDraft>,
+pub(crate) struct Month {
+    pub(crate) facts: PlainFacts,
+    pub(crate) hours: Vec<HourRow>,
+    pub(crate) rate: RateDraft,
+    pub(crate) riders: Vec<RiderDraft>,
 }
 
 fn words(alloc: Global, text: &str) -> Result<Vec<&str>, AllocError> {
@@ -77,7 +77,7 @@ fn read_rider(alloc: Global, text: &str) -> Result<RiderDraft> {
 }
 
 // None of an empty line, or of one that is only a comment.
-pub fn read_month(alloc: Global, line: &str) -> Result<Option<Month>> {
+pub(crate) fn read_month(alloc: Global, line: &str) -> Result<Option<Month>> {
     let (text, _) = line.split_once('#').unwrap_or((line, ""));
     if text.trim().is_empty() {
         return Ok(None);

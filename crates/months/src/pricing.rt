@@ -6,7 +6,7 @@ use tariff::{Amounts, Facts, HourList, Refusal, price};
 
 // Why a month has no amounts.
 #[derive(Drop)]
-pub enum Unpriced {
+pub(crate) enum Unpriced {
     Refused(Refusal),
     OutOfMemory(AllocError),
 }
@@ -25,7 +25,7 @@ impl From<AllocFailed<RiderSheet>> for Unpriced {
 
 // Refused by the first of these that says no: facts, hours, the rate's sheet, the riders' from
 // below, and then the pricing.
-pub fn price_month(alloc: Global, month: &Month) -> Result<Amounts, Unpriced> {
+pub(crate) fn price_month(alloc: Global, month: &Month) -> Result<Amounts, Unpriced> {
     let facts = Facts::new(month.facts)?;
     let hours = HourList::try_from(&month.hours[..])?;
     let mut pile = Pile::new(alloc, RateSheet::try_from(month.rate)?);
