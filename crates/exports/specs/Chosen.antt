@@ -1,6 +1,5 @@
 -- The sheets that records describe, and why there may be none.
-use Rattle.std.specs.Prelude.{◌≡◌, List, map, Some, None}
-use Rattle.std.specs.List.{Contains}
+use Rattle.std.specs.Prelude.{◌≡◌, ℕ, ◌<◌, List, length, map, slice_index_or, take, Some, None}
 use Rattle.piles.specs.Rates.{drafted, rate_figures, rate_meaning}
 use Rattle.piles.specs.Riders.{drafted as rider_drafted, rider_adds, rider_figures, rider_line, rider_number}
 use Rattle.piles.specs.Piles.{piled}
@@ -36,8 +35,8 @@ RiderFails rider Damaged = rider_in rider ≡ None
 RiderFails rider (Refused refusal) = (draft : RiderDraft) × (rider_in rider ≡ Some draft) × RefusedFigure (rider_figures draft) refusal
 RiderFails rider NoMemory = ⊥
 
--- why there is no pile: the rate, one of the riders, or no memory to hold them
+-- why there is no pile: the rate; else the lowest of the riders that fails, or no memory to hold the next
 pub data Unsealed (rate : RateRecord) (riders : List RiderRecord) : Failure → Type 0 where
   rate_fails : {failure : Failure} → RateFails rate failure → Unsealed rate riders failure
-  rider_fails : {failure : Failure} (rider : RiderRecord) → Contains riders rider → RiderFails rider failure → Unsealed rate riders failure
-  no_memory : Unsealed rate riders NoMemory
+  rider_fails : {failure : Failure} (k : ℕ) (d : RiderRecord) (sheet : RateSheet) (beneath : List RiderSheet) → k < length riders → Chosen rate (take k riders) sheet beneath → RiderFails (slice_index_or riders k d) failure → Unsealed rate riders failure
+  no_memory : (k : ℕ) (sheet : RateSheet) (beneath : List RiderSheet) → k < length riders → Chosen rate (take k riders) sheet beneath → Unsealed rate riders NoMemory

@@ -35,11 +35,11 @@ pub record Performed (rate : RateRecord) (riders : List RiderRecord) (months : �
   pub ledger : entries' ≡ told_over entries (map entry_record (left (chosen_meaning sheet sheets) (map (call_in carried readings) calls) (begun months entries)).ledger)
   pub counted : count ≡ length (left (chosen_meaning sheet sheets) (map (call_in carried readings) calls) (begun months entries)).ledger
 
--- there is not an answer for each call, there are no such sheets, or no memory
+-- the first that holds: there is not an answer for each call, there are no such sheets, or no memory for the book
 pub data Stops (rate : RateRecord) (riders : List RiderRecord) (calls : List CallRecord) (answers : List AnswerRecord) : Failure → Type 0 where
   unanswerable : length answers ≢ length calls → Stops rate riders calls answers Damaged
-  unsealed : {failure : Failure} → Unsealed rate riders failure → Stops rate riders calls answers failure
-  memory : Stops rate riders calls answers NoMemory
+  unsealed : {failure : Failure} → length answers ≡ length calls → Unsealed rate riders failure → Stops rate riders calls answers failure
+  memory : (sheet : RateSheet) (sheets : List RiderSheet) → length answers ≡ length calls → Chosen rate riders sheet sheets → Stops rate riders calls answers NoMemory
 
 -- the answer of a run, with answers and entries before and after it
 pub data RunTold (rate : RateRecord) (riders : List RiderRecord) (months : ℕ) (carried : List ℕ) (readings : List Reading) (calls : List CallRecord) (answers : List AnswerRecord) (entries : List EntryRecord) : AnswerRecord → List AnswerRecord → List EntryRecord → Type 0 where

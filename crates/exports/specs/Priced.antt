@@ -27,12 +27,12 @@ pub record Prices (rate : RateRecord) (riders : List RiderRecord) (facts : Plain
   pub rows : RowsWithin hours
   pub priced : pricing (chosen_meaning sheet sheets) facts hours ≡ Ok cents
 
--- there are no such sheets, facts or hours lie outside, or the pricing is refused
+-- the first that holds: there are no such sheets, the facts lie outside, the hours do, the pricing is refused
 pub data Fails (rate : RateRecord) (riders : List RiderRecord) (facts : PlainFacts) (hours : List HourRow) : Failure → Type 0 where
   unsealed : {failure : Failure} → Unsealed rate riders failure → Fails rate riders facts hours failure
-  facts_outside : (FactsWithin facts → ⊥) → Fails rate riders facts hours (Refused (OutsideLimit 0 0))
-  hours_outside : (RowsWithin hours → ⊥) → Fails rate riders facts hours (Refused (OutsideLimit 0 0))
-  refused : (sheet : RateSheet) (sheets : List RiderSheet) (refusal : Refusal) → Chosen rate riders sheet sheets → pricing (chosen_meaning sheet sheets) facts hours ≡ Err refusal → Fails rate riders facts hours (Refused refusal)
+  facts_outside : (sheet : RateSheet) (sheets : List RiderSheet) → Chosen rate riders sheet sheets → (FactsWithin facts → ⊥) → Fails rate riders facts hours (Refused (OutsideLimit 0 0))
+  hours_outside : (sheet : RateSheet) (sheets : List RiderSheet) → Chosen rate riders sheet sheets → FactsWithin facts → (RowsWithin hours → ⊥) → Fails rate riders facts hours (Refused (OutsideLimit 0 0))
+  refused : (sheet : RateSheet) (sheets : List RiderSheet) (refusal : Refusal) → Chosen rate riders sheet sheets → FactsWithin facts → RowsWithin hours → pricing (chosen_meaning sheet sheets) facts hours ≡ Err refusal → Fails rate riders facts hours (Refused refusal)
 
 -- the answer of a pricing, with the cents before and after it
 pub data Told (rate : RateRecord) (riders : List RiderRecord) (facts : PlainFacts) (hours : List HourRow) (before : CentsRecord) : AnswerRecord → CentsRecord → Type 0 where

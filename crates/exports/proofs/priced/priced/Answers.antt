@@ -2,7 +2,9 @@ use Rattle.std.proofs.Common.{◌≡◌, Ok, rules}
 use Rattle.tariff.specs.Limits.{FactsWithin, RowsWithin}
 use Rattle.tariff.specs.Pricing.{pricing}
 use Rattle.exports.specs.Chosen.{chosen_meaning}
-use Rattle.exports.specs.Priced.{facts_outside, hours_outside, refused, unsealed}
+use Rattle.tariff.specs.declared.refusal.Refusal.TheVariants.{OutsideLimit}
+use Rattle.exports.specs.declared.failure.Failure.TheVariants.{Refused}
+use Rattle.exports.specs.Priced.{Fails, facts_outside, hours_outside, refused, unsealed}
 use Rattle.exports.proofs.Failing.{prices_as}
 use Rattle.exports.proofs.priced.priced.Goals as goal
 
@@ -13,7 +15,10 @@ pub returns-in_err-facts : goal.returns-in_err-facts
 returns-in_err-facts c = search (rules, facts_outside)
 
 pub returns-in_err-hours : goal.returns-in_err-hours
-returns-in_err-hours c = search (rules, hours_outside)
+returns-in_err-hours c =
+    let lawful : FactsWithin c.args.facts.now = search rules in
+    let outside : (RowsWithin c.args.hours.now → ⊥) → Fails c.args.rate.now c.args.riders.now c.args.facts.now c.args.hours.now (Refused (OutsideLimit 0 0)) = hours_outside c.in_ok-pile.pile.schedule c.in_ok-pile.pile.riders.items c.in_ok-pile.ensures lawful in
+    search (rules, outside)
 
 pub returns-in_err-price : goal.returns-in_err-price
 returns-in_err-price c = search (rules, refused)
