@@ -2,7 +2,7 @@
 use Rattle.std.proofs.Common.{◌≡◌, ℕ, suc, ◌+◌, List, [], ◌∷◌, ◌++◌, map, length, take, drop, Option, sym, refl, ap, ◌∙◌, arith}
 use Rattle.std.proofs.lemmas.List.{drop-take}
 use Rattle.book.specs.Views.{View, altered_line, contract_of, facts_of, month_at, place, priced, substation_of, sums_of}
-use Rattle.store.specs.Months.{HourOnFile, Month, apparent, earlier_high, hour_rows, kva_of, kw_of, peak, ratchet, top}
+use Rattle.store.specs.Months.{HourOnFile, Month, peak_kva, ratchet_peak, hour_rows, kva_of, kw_of, peak, ratchet, top}
 use Rattle.store.specs.declared.reading.Reading.{Reading}
 use Rattle.store.specs.declared.state.State.TheVariants.{Open}
 use Rattle.tariff.specs.Pricing.{Meaning}
@@ -22,20 +22,20 @@ pub peak_from : (a b : Month) → a.readings ≡ b.readings → peak a ≡ peak 
 unfolding peak
 peak_from a b e = ap (λ readings. top (map kw_of readings)) e
 
-apparent_from : (a b : Month) → a.readings ≡ b.readings → apparent a ≡ apparent b
-unfolding apparent
+apparent_from : (a b : Month) → a.readings ≡ b.readings → peak_kva a ≡ peak_kva b
+unfolding peak_kva
 apparent_from a b e = ap (λ readings. top (map kva_of readings)) e
 
 facts_from : ℕ → ℕ → ℕ → ℕ → ℕ → PlainFacts
-facts_from contract substation peak apparent earlier = record {
+facts_from contract substation peak peak_kva ratchet_peak = record {
   contract = contract;
   substation = substation;
   peak = peak;
-  apparent = apparent;
-  earlier = earlier;
+  peak_kva = peak_kva;
+  ratchet_peak = ratchet_peak;
 }
 
-facts_of_from : (v : View) (m : ℕ) → facts_of v m ≡ facts_from (contract_of v.point) (substation_of v.point) (peak (month_at m v)) (apparent (month_at m v)) (facts_of v m).earlier
+facts_of_from : (v : View) (m : ℕ) → facts_of v m ≡ facts_from (contract_of v.point) (substation_of v.point) (peak (month_at m v)) (peak_kva (month_at m v)) (facts_of v m).ratchet_peak
 unfolding facts_of facts_from
 facts_of_from v m = refl
 
@@ -47,7 +47,7 @@ module _ (v : View) (m : ℕ) (w : View) (n : ℕ) (agree : Agree v m w n) (days
       let two = facts_of_from w n in
       let peaks = peak_from (month_at m v) (month_at n w) agree.readings in
       let apparents = apparent_from (month_at m v) (month_at n w) agree.readings in
-      cc (agree.contract, agree.substation, agree.earlier)
+      cc (agree.contract, agree.substation, agree.ratchet_peak)
 
   agreed_hours : hour_rows (month_at m v) ≡ hour_rows (month_at n w)
   agreed_hours =
@@ -84,8 +84,8 @@ pub record Spared (v : View) (m : ℕ) (w : View) : Type 0 where
   pub hours : (month_at m v).hours ≡ (month_at m w).hours
 
 module _ (v : View) (m : ℕ) (w : View) (counted : length v.before ≡ ratchet) (spared : Spared v m w) where
-  spared_earlier : (facts_of v m).earlier ≡ (facts_of w m).earlier
-  unfolding facts_of earlier_high
+  spared_earlier : (facts_of v m).ratchet_peak ≡ (facts_of w m).ratchet_peak
+  unfolding facts_of ratchet_peak
   spared_earlier =
       let old = window v.before (map peak v.months) ratchet (place m) counted in
       let new = window w.before (map peak w.months) ratchet (place m) (ap length (sym spared.before) ∙ counted) in
@@ -97,7 +97,7 @@ module _ (v : View) (m : ℕ) (w : View) (counted : length v.before ≡ ratchet)
       (record {
         contract = ap contract_of spared.point;
         substation = ap substation_of spared.point;
-        earlier = spared_earlier;
+        ratchet_peak = spared_earlier;
         readings = spared.readings;
         hours = spared.hours;
       })

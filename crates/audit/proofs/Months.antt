@@ -5,18 +5,18 @@ use Rattle.std.proofs.lemmas.List.{get_or_append_left, get_or_past, get_or_push,
 use Rattle.std.proofs.lemmas.Bool.{both_ways, cases_eq, cases_lt}
 use Rattle.book.specs.Calls.{Post, reading, day, price, scheduled}
 use Rattle.book.specs.Steps.{with_post}
-use Rattle.book.specs.Views.{View, has_reached, place}
+use Rattle.book.specs.Views.{View, month_has_reached, place}
 use Rattle.std.proofs.lemmas.List.Sums.{prefix_len_passes}
-use Rattle.store.specs.Months.{Month, altered, first_short, fresh, no_month, quarters_of, reached}
+use Rattle.store.specs.Months.{Month, months_with, first_short, new_month, no_month, quarters_of, has_reached}
 use Rattle.store.specs.declared.state.State.{State}
 use Rattle.store.specs.declared.state.State.TheVariants.{Open, Billed, Final}
 
-pub final_billed : (state : State) → reached Final state ≡ true → reached Billed state ≡ true
+pub final_billed : (state : State) → has_reached Final state ≡ true → has_reached Billed state ≡ true
 final_billed Open e = e
 final_billed Billed e = refl
 final_billed Final e = refl
 
-pub unbilled_unsettled : (state : State) → reached Billed state ≡ false → reached Final state ≡ false
+pub unbilled_unsettled : (state : State) → has_reached Billed state ≡ false → has_reached Final state ≡ false
 unbilled_unsettled Open e = refl
 unbilled_unsettled Billed e = refl
 unbilled_unsettled Final e = e
@@ -25,12 +25,12 @@ unbilled_unsettled Final e = e
 abbrev pub Shaped : Month → Type 0
 Shaped month = length month.readings ≡ quarters_of month.days
 
-pub fresh_open : (days : ℕ) → (fresh days).state ≡ Open
-unfolding fresh
+pub fresh_open : (days : ℕ) → (new_month days).state ≡ Open
+unfolding new_month
 fresh_open days = refl
 
-pub fresh_shaped : (days : ℕ) → Shaped (fresh days)
-unfolding fresh
+pub fresh_shaped : (days : ℕ) → Shaped (new_month days)
+unfolding new_month
 fresh_shaped days = length-replicate (quarters_of days) _
 
 pub no_month_open : no_month.state ≡ Open
@@ -43,14 +43,14 @@ no_month_shaped = fresh_shaped 0
 
 -- the month that is altered, and the others
 module _ (months : List Month) (m : ℕ) (alter : Month → Month) (low : 1 ≤ m) where
-  pub altered_here : m ≤ length months → get_or (altered (place m) alter months) (place m) no_month ≡ alter (get_or months (place m) no_month)
+  pub altered_here : m ≤ length months → get_or (months_with (place m) alter months) (place m) no_month ≡ alter (get_or months (place m) no_month)
   altered_here high = get_or-set_same months (place m) (alter (get_or months (place m) no_month)) no_month (omega arith)
 
-  pub altered_other : (n : ℕ) → 1 ≤ n → n ≢ m → get_or (altered (place m) alter months) (place n) no_month ≡ get_or months (place n) no_month
+  pub altered_other : (n : ℕ) → 1 ≤ n → n ≢ m → get_or (months_with (place m) alter months) (place n) no_month ≡ get_or months (place n) no_month
   altered_other n some other =
       get_or-set_other months (place m) (place n) (alter (get_or months (place m) no_month)) no_month (λ e. other (omega arith))
 
-  pub altered_at : m ≤ length months → (n : ℕ) → 1 ≤ n → (P : Month → Type 0) → (n ≡ m → P (alter (get_or months (place m) no_month))) → (n ≢ m → P (get_or months (place n) no_month)) → P (get_or (altered (place m) alter months) (place n) no_month)
+  pub altered_at : m ≤ length months → (n : ℕ) → 1 ≤ n → (P : Month → Type 0) → (n ≡ m → P (alter (get_or months (place m) no_month))) → (n ≢ m → P (get_or months (place n) no_month)) → P (get_or (months_with (place m) alter months) (place n) no_month)
   altered_at high n some P here there =
       elim (cases_eq n m) [
         | inl same ↦ rw same (rw (altered_here high) (here same))
@@ -68,23 +68,23 @@ pushed_other months new k other =
     ]
 
 -- it is open, and so was its place
-pub pushed_state : (months : List Month) (days k : ℕ) → (get_or (months ++ fresh days ∷ []) k no_month).state ≡ (get_or months k no_month).state
+pub pushed_state : (months : List Month) (days k : ℕ) → (get_or (months ++ new_month days ∷ []) k no_month).state ≡ (get_or months k no_month).state
 pushed_state months days k =
     elim (cases_eq k (length months)) [
       | inl here ↦
-          let new = get_or_push months (fresh days) no_month k (sym here) in
+          let new = get_or_push months (new_month days) no_month k (sym here) in
           let none = get_or_past months k no_month (omega arith) in
           ap (λ month. month.state) new ∙ fresh_open days ∙ sym (ap (λ month. month.state) none ∙ no_month_open)
-      | inr other ↦ ap (λ month. month.state) (pushed_other months (fresh days) k other)
+      | inr other ↦ ap (λ month. month.state) (pushed_other months (new_month days) k other)
     ]
 
 -- only a month that was started was billed
-pub billed_there : (v : View) (m : ℕ) → 1 ≤ m → has_reached Billed m v ≡ true → m ≤ length v.months
+pub billed_there : (v : View) (m : ℕ) → 1 ≤ m → month_has_reached Billed m v ≡ true → m ≤ length v.months
 billed_there v m low billed =
     elim (cases_lt (length v.months) m) [
       | inl past ↦
           let state = ap (λ month. month.state) (get_or_past v.months (place m) no_month (omega arith)) ∙ no_month_open in
-          elim (both_ways (has_reached Billed m v) (ap (reached Billed) state) billed) [ ]
+          elim (both_ways (month_has_reached Billed m v) (ap (has_reached Billed) state) billed) [ ]
       | inr there ↦ there
     ]
 
@@ -109,8 +109,8 @@ module _ (post : Post) (month : Month) where
       ]
 
 -- where no earlier month is short of a state, each has reached it
-pub none_short : (state : State) (v : View) (m n : ℕ) → place m ≤ first_short state v.months (place m) → 1 ≤ n → n < m → has_reached state n v ≡ true
+pub none_short : (state : State) (v : View) (m n : ℕ) → place m ≤ first_short state v.months (place m) → 1 ≤ n → n < m → month_has_reached state n v ≡ true
 none_short state v m n all low before =
-    let passes = prefix_len_passes (λ month. reached state month.state) (take (place m) v.months) (place n) no_month (omega arith) in
+    let passes = prefix_len_passes (λ month. has_reached state month.state) (take (place m) v.months) (place n) no_month (omega arith) in
     let same = get_or-take (place m) v.months (place n) no_month (omega arith) in
-    ap (λ month. reached state month.state) (sym same) ∙ passes
+    ap (λ month. has_reached state month.state) (sym same) ∙ passes

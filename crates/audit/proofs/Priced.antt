@@ -6,11 +6,11 @@ use Rattle.std.proofs.lemmas.Bool.{eqb-false, eqb-true}
 use Rattle.book.specs.Calls.{Call, opens, starts, posts, bills, trues_up, finalises, asks_due, asks_total}
 use Rattle.book.specs.Steps.{after, step, with_post}
 use Rattle.book.specs.Table.{bill_entries, is_fault, refused}
-use Rattle.book.specs.Views.{View, amounts_in, has_reached, month_at, priced}
+use Rattle.book.specs.Views.{View, amounts_in, month_has_reached, month_at, priced}
 use Rattle.ledger.specs.Entries.{line_sum}
-use Rattle.ledger.specs.declared.entry.Letter.TheVariants.{Bill, TrueUp}
+use Rattle.ledger.specs.declared.entry.EntryKind.TheVariants.{Bill, TrueUp}
 use Rattle.ledger.proofs.Sums.{entries_for_line, line_sum_append, written_sum}
-use Rattle.store.specs.Months.{reached, with_state}
+use Rattle.store.specs.Months.{has_reached, with_state}
 use Rattle.store.specs.declared.state.State.TheVariants.{Billed, Final}
 use Rattle.tariff.specs.Limits.{line_count}
 use Rattle.tariff.specs.Pricing.{Meaning, Outcome}
@@ -42,7 +42,7 @@ pub record Stands (meaning : Meaning) (u : View) (m : ℕ) (w : View) : Type 0 w
 
 -- the month was not priced from v to w
 pub record Unpriced (v : View) (m : ℕ) (w : View) : Type 0 where
-  pub billed : has_reached Billed m w ≡ true → has_reached Billed m v ≡ true
+  pub billed : month_has_reached Billed m w ≡ true → month_has_reached Billed m v ≡ true
   pub sums : (l : ℕ) → line_sum w.ledger m l ≡ line_sum v.ledger m l
 
 module _ (meaning : Meaning) (m : ℕ) (v : View) where
@@ -86,13 +86,13 @@ if_taken false P Q p q = q refl
 priced_after : (meaning : Meaning) (call : Call) (m : ℕ) (v : View) → Sound meaning v → 1 ≤ m → refused meaning call v ≡ None → MatchBool (prices m call && true) (Stands meaning v m (after meaning call v)) (Unpriced v m (after meaning call v))
 priced_after meaning (opens code contract substation carried) m v sound low e = record { billed = λ h. h; sums = λ l. refl }
 priced_after meaning (starts days) m v sound low e =
-    record { billed = λ h. sym (ap (reached Billed) (pushed_state v.months days (m - 1))) ∙ h; sums = λ l. refl }
+    record { billed = λ h. sym (ap (has_reached Billed) (pushed_state v.months days (m - 1))) ∙ h; sums = λ l. refl }
 priced_after meaning (posts n post) m v sound low e =
     let h = (posting meaning v n post e).names in
     record {
       billed =
-          altered_at v.months n (with_post post) h.low h.high m low (λ month. reached Billed month.state ≡ true → has_reached Billed m v ≡ true)
-          (λ same done. rw same (ap (reached Billed) (sym (post_state post (month_at n v))) ∙ done))
+          altered_at v.months n (with_post post) h.low h.high m low (λ month. has_reached Billed month.state ≡ true → month_has_reached Billed m v ≡ true)
+          (λ same done. rw same (ap (has_reached Billed) (sym (post_state post (month_at n v))) ∙ done))
           (λ other done. done);
       sums = λ l. refl;
     }
@@ -103,7 +103,7 @@ priced_after meaning (bills n) m v sound low e =
     (λ differs.
     let other : m ≢ n = λ same. eqb-false n m differs (sym same) in
     record {
-      billed = λ done. ap (λ month. reached Billed month.state) (sym (altered_other v.months n (with_state Billed) h.low m low other)) ∙ done;
+      billed = λ done. ap (λ month. has_reached Billed month.state) (sym (altered_other v.months n (with_state Billed) h.low m low other)) ∙ done;
       sums = λ l. written_elsewhere Bill v.ledger n _ m l other;
     })
 priced_after meaning (trues_up n) m v sound low e =
@@ -117,7 +117,7 @@ priced_after meaning (finalises n) m v sound low e =
     let h = finalising meaning v n e in
     record {
       billed =
-          altered_at v.months n (with_state Final) h.names.low h.names.high m low (λ month. reached Billed month.state ≡ true → has_reached Billed m v ≡ true)
+          altered_at v.months n (with_state Final) h.names.low h.names.high m low (λ month. has_reached Billed month.state ≡ true → month_has_reached Billed m v ≡ true)
           (λ same done. rw same h.billed)
           (λ other done. done);
       sums = λ l. refl;
@@ -151,7 +151,7 @@ upheld meaning (call ∷ calls) m v sound low =
     (upheld meaning calls m u (kept meaning call v sound).sound low)
     (priced_step meaning call m v sound low)
 
-latest_from : (meaning : Meaning) (calls : List Call) (m : ℕ) (v w : View) (found : Option View) → last_priced meaning calls v m ≡ found → Upheld meaning v m w found → has_reached Billed m v ≡ false → has_reached Billed m w ≡ true → (cents : List ℤ) × Latest meaning calls v m cents
+latest_from : (meaning : Meaning) (calls : List Call) (m : ℕ) (v w : View) (found : Option View) → last_priced meaning calls v m ≡ found → Upheld meaning v m w found → month_has_reached Billed m v ≡ false → month_has_reached Billed m w ≡ true → (cents : List ℤ) × Latest meaning calls v m cents
 latest_from meaning calls m v w (Some u) is held short done = (held.cents, record { stood = u; latest = is; amounts = held.amounts })
 latest_from meaning calls m v w None is held short done =
     let never : false ≡ true = sym short ∙ held.billed done in
@@ -160,7 +160,7 @@ latest_from meaning calls m v w None is held short done =
     elim none [ ]
 
 -- a month that was billed over the run was priced
-pub priced_once : (meaning : Meaning) (calls : List Call) (m : ℕ) (v : View) → Sound meaning v → 1 ≤ m → has_reached Billed m v ≡ false → has_reached Billed m (performed meaning calls v) ≡ true → (cents : List ℤ) × Latest meaning calls v m cents
+pub priced_once : (meaning : Meaning) (calls : List Call) (m : ℕ) (v : View) → Sound meaning v → 1 ≤ m → month_has_reached Billed m v ≡ false → month_has_reached Billed m (performed meaning calls v) ≡ true → (cents : List ℤ) × Latest meaning calls v m cents
 priced_once meaning calls m v sound low short done =
     latest_from meaning calls m v (performed meaning calls v) (last_priced meaning calls v m) refl (upheld meaning calls m v sound low) short done
 

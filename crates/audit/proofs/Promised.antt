@@ -4,10 +4,10 @@ use Rattle.std.proofs.lemmas.Bool.{and_from, le-leb}
 use Rattle.book.specs.Calls.{Call, asks_due}
 use Rattle.book.specs.Steps.{answer}
 use Rattle.book.specs.Table.{is_fault}
-use Rattle.book.specs.Views.{View, amounts_in, has_reached, month_at, priced}
+use Rattle.book.specs.Views.{View, amounts_in, month_has_reached, month_at, priced}
 use Rattle.ledger.specs.Entries.{line_sum}
 use Rattle.ledger.proofs.Sums.{get_or_sums}
-use Rattle.store.specs.Months.{reached}
+use Rattle.store.specs.Months.{has_reached}
 use Rattle.store.specs.declared.state.State.TheVariants.{Billed}
 use Rattle.tariff.specs.Limits.{line_count}
 use Rattle.tariff.specs.Pricing.{Meaning}
@@ -34,7 +34,7 @@ module _ (meaning : Meaning) (run : Run) (m : ℕ) (billed : IsBilled m (laws.re
   latest : (cents : List ℤ) × Latest meaning run.calls (begun run) m cents
   latest =
       priced_once meaning run.calls m (begun run) (begun_sound meaning run) (month_there m (laws.reached meaning run) billed.0).0
-      (ap (reached Billed) no_month_open) billed.1
+      (ap (has_reached Billed) no_month_open) billed.1
 
   sums : (cents : List ℤ) → Latest meaning run.calls (begun run) m cents → (i : ℕ) → i < line_count → line_sum (laws.reached meaning run).ledger m (i + 1) ≡ get_or cents i (pos 0)
   sums = latest_sums meaning run.calls m (begun run) (begun_sound meaning run) (month_there m (laws.reached meaning run) billed.0).0
@@ -62,7 +62,7 @@ final meaning v m sound is more =
     let w = performed meaning more v in
     let kept = runs_kept meaning more v sound in
     let still = kept.final m low is.1 in
-    let billed : has_reached Billed m w ≡ true = final_billed (month_at m w).state still.0 in
+    let billed : month_has_reached Billed m w ≡ true = final_billed (month_at m w).state still.0 in
     let there = and_from (leb 1 m) (leb m (length w.months)) (le-leb 1 m low) (le-leb m (length w.months) (billed_there w m low billed)) in
     let settled = kept.sound.settled m low still.0 in
     ((there, still.0), due_answers meaning w m kept.sound (there, billed) settled.prices ∙ ap (λ line. Ok (is_some line)) settled.current, still.1)

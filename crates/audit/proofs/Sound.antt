@@ -7,12 +7,12 @@ use Rattle.std.proofs.lemmas.Bool.{both_ways, cases_eq, cases_order}
 use Rattle.book.specs.Calls.{Call, opens, starts, posts, bills, trues_up, finalises, asks_due, asks_total}
 use Rattle.book.specs.Steps.{after, in_month, step, with_ledger, with_post}
 use Rattle.book.specs.Table.{bill_entries, is_fault, refused, true_up_entries}
-use Rattle.book.specs.Views.{View, altered_line, blank, has_reached, month_at, place, priced}
+use Rattle.book.specs.Views.{View, altered_line, blank, month_has_reached, month_at, place, priced}
 use Rattle.ledger.specs.Entries.{entries_for, line_sum, sums}
 use Rattle.ledger.specs.declared.entry.Entry.{Entry}
-use Rattle.ledger.specs.declared.entry.Letter.{Letter}
+use Rattle.ledger.specs.declared.entry.EntryKind.{EntryKind}
 use Rattle.ledger.proofs.Sums.{entries_other_month, get_or_sums, length_sums, line_sum_append, line_sum_none}
-use Rattle.store.specs.Months.{Month, aged, fresh, no_month, peak, ratchet, reached, with_state}
+use Rattle.store.specs.Months.{Month, earlier_peaks, new_month, no_month, peak, ratchet, has_reached, with_state}
 use Rattle.store.specs.declared.state.State.TheVariants.{Billed, Final}
 use Rattle.tariff.specs.Limits.{line_count}
 use Rattle.tariff.specs.Pricing.{Meaning}
@@ -23,7 +23,7 @@ use Rattle.audit.proofs.Table.{billing, by_step, finalising, opening, posting, s
 
 -- a month that was made final: so are all before it, it can be priced, and pricing it alters nothing
 pub record Settled (meaning : Meaning) (v : View) (m : ℕ) : Type 0 where
-  pub earlier : (n : ℕ) → 1 ≤ n → n < m → has_reached Final n v ≡ true
+  pub earlier : (n : ℕ) → 1 ≤ n → n < m → month_has_reached Final n v ≡ true
   pub prices : is_fault (priced meaning v m) ≡ false
   pub current : altered_line meaning v m ≡ None
 
@@ -33,13 +33,13 @@ pub record Sound (meaning : Meaning) (v : View) : Type 0 where
   pub empty : is_some v.point ≡ false → v.months ≡ []
   pub shaped : (m : ℕ) → 1 ≤ m → Shaped (month_at m v)
   -- past the last month too
-  pub unbilled : (m l : ℕ) → 1 ≤ m → has_reached Billed m v ≡ false → line_sum v.ledger m l ≡ pos 0
-  pub settled : (m : ℕ) → 1 ≤ m → has_reached Final m v ≡ true → Settled meaning v m
+  pub unbilled : (m l : ℕ) → 1 ≤ m → month_has_reached Billed m v ≡ false → line_sum v.ledger m l ≡ pos 0
+  pub settled : (m : ℕ) → 1 ≤ m → month_has_reached Final m v ≡ true → Settled meaning v m
 
 -- what a call leaves: a sound book, whose final months are as they were
 pub record Kept (meaning : Meaning) (v w : View) : Type 0 where
   pub sound : Sound meaning w
-  pub final : (m : ℕ) → 1 ≤ m → has_reached Final m v ≡ true → (has_reached Final m w ≡ true) × ((l : ℕ) → line_sum w.ledger m l ≡ line_sum v.ledger m l)
+  pub final : (m : ℕ) → 1 ≤ m → month_has_reached Final m v ≡ true → (month_has_reached Final m w ≡ true) × ((l : ℕ) → line_sum w.ledger m l ≡ line_sum v.ledger m l)
 
 absurd : {X : Type 0} (b : Bool) → b ≡ false → b ≡ true → X
 absurd b short done = elim (both_ways b short done) [ ]
@@ -51,13 +51,13 @@ sums_from one two m same =
     let few : i < line_count = omega (arith, length_sums one m) in
     get_or_sums one m i few ∙ same (i + 1) ∙ sym (get_or_sums two m i few))
 
-pub written_elsewhere : (letter : Letter) (ledger : List Entry) (m : ℕ) (cents : List ℤ) (n l : ℕ) → n ≢ m → line_sum (ledger ++ entries_for letter m cents) n l ≡ line_sum ledger n l
-written_elsewhere letter ledger m cents n l other =
-    let both = line_sum_append ledger (entries_for letter m cents) n l in
-    let none = entries_other_month letter m 1 cents n l other in
+pub written_elsewhere : (kind : EntryKind) (ledger : List Entry) (m : ℕ) (cents : List ℤ) (n l : ℕ) → n ≢ m → line_sum (ledger ++ entries_for kind m cents) n l ≡ line_sum ledger n l
+written_elsewhere kind ledger m cents n l other =
+    let both = line_sum_append ledger (entries_for kind m cents) n l in
+    let none = entries_other_month kind m 1 cents n l other in
     omega (arith, ints)
 
-settled_still : (meaning : Meaning) (v w : View) (m : ℕ) → length v.before ≡ ratchet → Spared v m w → ((l : ℕ) → line_sum w.ledger m l ≡ line_sum v.ledger m l) → ((n : ℕ) → 1 ≤ n → n < m → has_reached Final n v ≡ true → has_reached Final n w ≡ true) → Settled meaning v m → Settled meaning w m
+settled_still : (meaning : Meaning) (v w : View) (m : ℕ) → length v.before ≡ ratchet → Spared v m w → ((l : ℕ) → line_sum w.ledger m l ≡ line_sum v.ledger m l) → ((n : ℕ) → 1 ≤ n → n < m → month_has_reached Final n v ≡ true → month_has_reached Final n w ≡ true) → Settled meaning v m → Settled meaning w m
 settled_still meaning v w m counted spared same before settled = record {
   earlier = λ n low here. before n low here (settled.earlier n low here);
   prices = ap is_fault (sym (spared_priced v m w counted spared meaning)) ∙ settled.prices;
@@ -89,22 +89,22 @@ module _ (v : View) (m : ℕ) (low : 1 ≤ m) (ledger : List Entry) (same : (n l
 peaks_from : (v w : View) (k : ℕ) → take k v.months ≡ take k w.months → take k (map peak v.months) ≡ take k (map peak w.months)
 peaks_from v w k e = take-map peak k v.months ∙ ap (map peak) e ∙ sym (take-map peak k w.months)
 
-module _ (meaning : Meaning) (v : View) (sound : Sound meaning v) (opened : is_some v.point ≡ true) (m : ℕ) (low : 1 ≤ m) (unsettled : has_reached Final m v ≡ false) (w : View) (touches : Touches m v w) where
-  final_other : (n : ℕ) → has_reached Final n v ≡ true → n ≢ m
-  final_other n final same = absurd (has_reached Final m v) unsettled (rw same at final)
+module _ (meaning : Meaning) (v : View) (sound : Sound meaning v) (opened : is_some v.point ≡ true) (m : ℕ) (low : 1 ≤ m) (unsettled : month_has_reached Final m v ≡ false) (w : View) (touches : Touches m v w) where
+  final_other : (n : ℕ) → month_has_reached Final n v ≡ true → n ≢ m
+  final_other n final same = absurd (month_has_reached Final m v) unsettled (rw same at final)
 
-  others_final : (n : ℕ) → 1 ≤ n → n ≢ m → has_reached Final n v ≡ has_reached Final n w
-  others_final n some other = ap (λ month. reached Final month.state) (sym (touches.others n some other))
+  others_final : (n : ℕ) → 1 ≤ n → n ≢ m → month_has_reached Final n v ≡ month_has_reached Final n w
+  others_final n some other = ap (λ month. has_reached Final month.state) (sym (touches.others n some other))
 
   -- it comes before the month that is touched
-  others_settled : (n : ℕ) → 1 ≤ n → n ≢ m → has_reached Final n w ≡ true → Settled meaning w n
+  others_settled : (n : ℕ) → 1 ≤ n → n ≢ m → month_has_reached Final n w ≡ true → Settled meaning w n
   others_settled n some other final =
       let settled = sound.settled n some (others_final n some other ∙ final) in
       let before : n < m =
       elim (cases_order n m) [
         | inl same ↦ elim (other same) [ ]
         | inr (inl earlier) ↦ earlier
-        | inr (inr later) ↦ absurd (has_reached Final m v) unsettled (settled.earlier m low later)
+        | inr (inr later) ↦ absurd (month_has_reached Final m v) unsettled (settled.earlier m low later)
       ]
       in
       let month = sym (touches.others n some other) in
@@ -121,7 +121,7 @@ module _ (meaning : Meaning) (v : View) (sound : Sound meaning v) (opened : is_s
       (λ k one here done. sym (others_final k one (λ e. omega arith)) ∙ done)
       settled
 
-  touched : Shaped (month_at m w) → ((l : ℕ) → has_reached Billed m w ≡ false → line_sum w.ledger m l ≡ pos 0) → (has_reached Final m w ≡ true → Settled meaning w m) → Kept meaning v w
+  touched : Shaped (month_at m w) → ((l : ℕ) → month_has_reached Billed m w ≡ false → line_sum w.ledger m l ≡ pos 0) → (month_has_reached Final m w ≡ true → Settled meaning w m) → Kept meaning v w
   touched shaped unbilled settled = record {
     sound = record {
       counted = ap length (sym touches.before) ∙ sound.counted;
@@ -135,7 +135,7 @@ module _ (meaning : Meaning) (v : View) (sound : Sound meaning v) (opened : is_s
           elim (cases_eq n m) [
             | inl same ↦ rw same (unbilled l (rw same at short))
             | inr other ↦
-                touches.sums n l other ∙ sound.unbilled n l some (ap (λ month. reached Billed month.state) (sym (touches.others n some other)) ∙ short)
+                touches.sums n l other ∙ sound.unbilled n l some (ap (λ month. has_reached Billed month.state) (sym (touches.others n some other)) ∙ short)
           ];
       settled = λ n some final.
           elim (cases_eq n m) [
@@ -151,11 +151,11 @@ module _ (meaning : Meaning) (v : View) (sound : Sound meaning v) (opened : is_s
 unmoved : (meaning : Meaning) (v : View) → Sound meaning v → Kept meaning v v
 unmoved meaning v sound = record { sound = sound; final = λ m low final. (final, λ l. refl) }
 
-length_aged : (carried : List ℕ) → length (aged carried) ≡ ratchet
-unfolding aged
+length_aged : (carried : List ℕ) → length (earlier_peaks carried) ≡ ratchet
+unfolding earlier_peaks
 length_aged carried = length-map-range_with_len (λ i. get_or carried (ratchet - 1 - i) 0) 0 ratchet
 
-none_final : (v : View) (m : ℕ) → 1 ≤ m → v.months ≡ [] → has_reached Final m v ≡ true → ⊥
+none_final : (v : View) (m : ℕ) → 1 ≤ m → v.months ≡ [] → month_has_reached Final m v ≡ true → ⊥
 none_final v m low none final = omega (arith, billed_there v m low (final_billed (month_at m v).state final), ap length none)
 
 opened_kept : (meaning : Meaning) (v : View) → Sound meaning v → (code : List ℕ) (contract substation : ℕ) (carried : List ℕ) → v.months ≡ [] → Kept meaning v (after meaning (opens code contract substation carried) v)
@@ -175,17 +175,17 @@ started_kept : (meaning : Meaning) (v : View) → Sound meaning v → is_some v.
 started_kept meaning v sound opened days m low new =
     let was = ap (λ month. month.state) (get_or_past v.months (place m) no_month (omega arith)) ∙ no_month_open in
     let state = pushed_state v.months days (place m) ∙ was in
-    touched meaning v sound opened m low (ap (reached Final) was) (after meaning (starts days) v)
+    touched meaning v sound opened m low (ap (has_reached Final) was) (after meaning (starts days) v)
     (record {
       point = refl;
       before = refl;
-      earlier = λ k here. sym (take-append-le k v.months (fresh days ∷ []) (omega arith));
-      others = λ n some other. pushed_other v.months (fresh days) (place n) (λ e. other (omega arith));
+      earlier = λ k here. sym (take-append-le k v.months (new_month days ∷ []) (omega arith));
+      others = λ n some other. pushed_other v.months (new_month days) (place n) (λ e. other (omega arith));
       sums = λ n l other. refl;
     })
-    (rw (get_or_push v.months (fresh days) no_month (place m) (sym new)) (fresh_shaped days))
-    (λ l short. sound.unbilled m l low (ap (reached Billed) was))
-    (λ final. absurd (has_reached Final m (after meaning (starts days) v)) (ap (reached Final) state) final)
+    (rw (get_or_push v.months (new_month days) no_month (place m) (sym new)) (fresh_shaped days))
+    (λ l short. sound.unbilled m l low (ap (has_reached Billed) was))
+    (λ final. absurd (month_has_reached Final m (after meaning (starts days) v)) (ap (has_reached Final) state) final)
 
 pub none_some : {X : Type 0} (o : Option X) → is_some o ≡ false → o ≡ None
 none_some None e = refl
@@ -203,8 +203,8 @@ kept_after meaning (posts m post) v sound e =
     touched meaning v sound h.names.opened m low h.unsettled (after meaning (posts m post) v)
     (touches_month v m low v.ledger (λ n l other. refl) (with_post post))
     (rw month (post_shaped post (month_at m v) (sound.shaped m low)))
-    (λ l short. sound.unbilled m l low (sym (ap (reached Billed) state) ∙ short))
-    (λ final. absurd (has_reached Final m v) h.unsettled (sym (ap (reached Final) state) ∙ final))
+    (λ l short. sound.unbilled m l low (sym (ap (has_reached Billed) state) ∙ short))
+    (λ final. absurd (month_has_reached Final m v) h.unsettled (sym (ap (has_reached Final) state) ∙ final))
 kept_after meaning (bills m) v sound e =
     let h = billing meaning v m e in
     let low : 1 ≤ m = h.names.low in
@@ -213,16 +213,16 @@ kept_after meaning (bills m) v sound e =
     touched meaning v sound h.names.opened m low (unbilled_unsettled (month_at m v).state h.unbilled) (after meaning (bills m) v)
     (touches_month v m low (v.ledger ++ bill_entries meaning v m) (written_elsewhere _ v.ledger m _) (with_state Billed))
     (rw month (sound.shaped m low))
-    (λ l short. absurd (reached Billed Billed) (sym (ap (reached Billed) state) ∙ short) refl)
-    (λ final. absurd (reached Final Billed) refl (sym (ap (reached Final) state) ∙ final))
+    (λ l short. absurd (has_reached Billed Billed) (sym (ap (has_reached Billed) state) ∙ short) refl)
+    (λ final. absurd (has_reached Final Billed) refl (sym (ap (has_reached Final) state) ∙ final))
 kept_after meaning (trues_up m) v sound e =
     let h = truing meaning v m e in
     let low : 1 ≤ m = h.names.low in
     touched meaning v sound h.names.opened m low h.unsettled (after meaning (trues_up m) v)
     (touches_ledger v m low (v.ledger ++ true_up_entries meaning v m) (written_elsewhere _ v.ledger m _))
     (sound.shaped m low)
-    (λ l short. absurd (has_reached Billed m v) short h.billed)
-    (λ final. absurd (has_reached Final m v) h.unsettled final)
+    (λ l short. absurd (month_has_reached Billed m v) short h.billed)
+    (λ final. absurd (month_has_reached Final m v) h.unsettled final)
 kept_after meaning (finalises m) v sound e =
     let h = finalising meaning v m e in
     let low : 1 ≤ m = h.names.low in
@@ -240,9 +240,9 @@ kept_after meaning (finalises m) v sound e =
     } in
     touched meaning v sound h.names.opened m low h.unsettled w touches
     (rw month (sound.shaped m low))
-    (λ l short. absurd (reached Billed Final) (sym (ap (reached Billed) state) ∙ short) refl)
+    (λ l short. absurd (has_reached Billed Final) (sym (ap (has_reached Billed) state) ∙ short) refl)
     (λ final. record {
-      earlier = λ n some here. ap (λ month. reached Final month.state) (touches.others n some (λ e. omega arith)) ∙ none_short Final v m n h.earlier some here;
+      earlier = λ n some here. ap (λ month. has_reached Final month.state) (touches.others n some (λ e. omega arith)) ∙ none_short Final v m n h.earlier some here;
       prices = ap is_fault (sym (spared_priced v m w sound.counted spared meaning)) ∙ h.prices;
       current = sym (spared_altered v m w sound.counted spared meaning refl) ∙ none_some (altered_line meaning v m) h.current;
     })

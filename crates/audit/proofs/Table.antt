@@ -5,7 +5,7 @@ use Rattle.std.proofs.lemmas.Bool.{and_parts, leb-true, ltb-false, not-false}
 use Rattle.book.specs.Calls.{Call, Post, opens, starts, posts, bills, trues_up, finalises}
 use Rattle.book.specs.Steps.{after, step, taken}
 use Rattle.book.specs.Table.{Row, first_holding, is_blank, is_fault, refused, rows}
-use Rattle.book.specs.Views.{View, altered_line, has_reached, is_month, place, priced}
+use Rattle.book.specs.Views.{View, altered_line, month_has_reached, is_month, place, priced}
 use Rattle.store.specs.Months.{first_short}
 use Rattle.store.specs.declared.state.State.TheVariants.{Billed, Final}
 use Rattle.tariff.specs.Pricing.{Meaning}
@@ -54,7 +54,7 @@ module _ (meaning : Meaning) (v : View) where
 
   pub record Posting (m : ℕ) : Type 0 where
     pub names : Names m v
-    pub unsettled : has_reached Final m v ≡ false
+    pub unsettled : month_has_reached Final m v ≡ false
 
   pub posting : (m : ℕ) (post : Post) → refused meaning (posts m post) v ≡ None → Posting m
   posting m post e =
@@ -63,7 +63,7 @@ module _ (meaning : Meaning) (v : View) where
 
   pub record Billing (m : ℕ) : Type 0 where
     pub names : Names m v
-    pub unbilled : has_reached Billed m v ≡ false
+    pub unbilled : month_has_reached Billed m v ≡ false
     pub prices : is_fault (priced meaning v m) ≡ false
 
   pub billing : (m : ℕ) → refused meaning (bills m) v ≡ None → Billing m
@@ -77,8 +77,8 @@ module _ (meaning : Meaning) (v : View) where
 
   pub record Truing (m : ℕ) : Type 0 where
     pub names : Names m v
-    pub unsettled : has_reached Final m v ≡ false
-    pub billed : has_reached Billed m v ≡ true
+    pub unsettled : month_has_reached Final m v ≡ false
+    pub billed : month_has_reached Billed m v ≡ true
     pub prices : is_fault (priced meaning v m) ≡ false
 
   pub truing : (m : ℕ) → refused meaning (trues_up m) v ≡ None → Truing m
@@ -87,14 +87,14 @@ module _ (meaning : Meaning) (v : View) where
       record {
         names = names m v h.0 h.1.0;
         unsettled = h.1.1.0;
-        billed = not-false (has_reached Billed m v) h.1.1.1.0;
+        billed = not-false (month_has_reached Billed m v) h.1.1.1.0;
         prices = h.1.1.1.1.0;
       }
 
   pub record Finalising (m : ℕ) : Type 0 where
     pub names : Names m v
-    pub unsettled : has_reached Final m v ≡ false
-    pub billed : has_reached Billed m v ≡ true
+    pub unsettled : month_has_reached Final m v ≡ false
+    pub billed : month_has_reached Billed m v ≡ true
     pub earlier : place m ≤ first_short Final v.months (place m)
     pub prices : is_fault (priced meaning v m) ≡ false
     pub current : is_some (altered_line meaning v m) ≡ false
@@ -105,7 +105,7 @@ module _ (meaning : Meaning) (v : View) where
       record {
         names = names m v h.0 h.1.0;
         unsettled = h.1.1.0;
-        billed = not-false (has_reached Billed m v) h.1.1.1.0;
+        billed = not-false (month_has_reached Billed m v) h.1.1.1.0;
         earlier = ltb-false (first_short Final v.months (place m)) (place m) h.1.1.1.1.0;
         prices = h.1.1.1.1.1.0;
         current = h.1.1.1.1.1.1.0;

@@ -2,7 +2,7 @@
 use Rattle.std.specs.Prelude.{◌≡◌, ℕ, ◌+◌, ◌<◌, Bool, true, false, List, ℤ, pos, Some, Ok, Err, Decides, ◌≢◌, slice_index_or}
 use Rattle.book.specs.Calls.{Call, asks_due, asks_total}
 use Rattle.book.specs.Steps.{answer}
-use Rattle.book.specs.Views.{View, blank, contract_of, facts_of, has_reached, is_month, month_at, priced, substation_of}
+use Rattle.book.specs.Views.{View, blank, contract_of, facts_of, month_has_reached, is_month, month_at, priced, substation_of}
 use Rattle.ledger.specs.Entries.{line_sum}
 use Rattle.store.specs.declared.state.State.TheVariants.{Billed, Final}
 use Rattle.tariff.specs.Limits.{line_count}
@@ -15,10 +15,10 @@ use Rattle.audit.specs.Runs.{last_priced, performed, prescribed_by}
 
 -- a month that was billed; a final one counts as billed
 abbrev pub IsBilled : ℕ → View → Type 0
-IsBilled m v = (is_month m v ≡ true) × (has_reached Billed m v ≡ true)
+IsBilled m v = (is_month m v ≡ true) × (month_has_reached Billed m v ≡ true)
 
 abbrev pub IsFinal : ℕ → View → Type 0
-IsFinal m v = (is_month m v ≡ true) × (has_reached Final m v ≡ true)
+IsFinal m v = (is_month m v ≡ true) × (month_has_reached Final m v ≡ true)
 
 -- line i of a statement, from 0
 abbrev line : List ℤ → ℕ → ℤ
@@ -34,7 +34,7 @@ pub record Latest (meaning : Meaning) (calls : List Call) (v : View) (m : ℕ) (
 pub record Agree (v : View) (m : ℕ) (w : View) (n : ℕ) : Type 0 where
   pub contract : contract_of v.point ≡ contract_of w.point
   pub substation : substation_of v.point ≡ substation_of w.point
-  pub earlier : (facts_of v m).earlier ≡ (facts_of w n).earlier
+  pub ratchet_peak : (facts_of v m).ratchet_peak ≡ (facts_of w n).ratchet_peak
   pub readings : (month_at m v).readings ≡ (month_at n w).readings
   -- prices and scheduled amounts
   pub hours : (month_at m v).hours ≡ (month_at n w).hours
@@ -48,19 +48,19 @@ pub record Run : Type 0 where
 abbrev pub begun : Run → View
 begun run = blank run.capacity run.room
 
-abbrev pub reached : Meaning → Run → View
-reached meaning run = performed meaning run.calls (begun run)
+abbrev pub book_after : Meaning → Run → View
+book_after meaning run = performed meaning run.calls (begun run)
 
 pub record Promise (meaning : Meaning) : Type 0 where
   -- the ledger holds the entries that the accepted bills and true-ups so far prescribe, and no others
-  pub ledger : (run : Run) → (reached meaning run).ledger ≡ prescribed_by meaning run.calls (begun run)
+  pub ledger : (run : Run) → (book_after meaning run).ledger ≡ prescribed_by meaning run.calls (begun run)
   -- on each line of a billed month the entries add up to what the schedule made of the file as it stood at the latest pricing, and total answers that sum
-  pub sums : (run : Run) (m : ℕ) → IsBilled m (reached meaning run) → (cents : List ℤ) × Latest meaning run.calls (begun run) m cents × ((i : ℕ) → i < line_count → (line_sum (reached meaning run).ledger m (i + 1) ≡ line cents i) × (answer meaning (asks_total m (i + 1)) (reached meaning run) ≡ Ok (line cents i)))
+  pub sums : (run : Run) (m : ℕ) → IsBilled m (book_after meaning run) → (cents : List ℤ) × Latest meaning run.calls (begun run) m cents × ((i : ℕ) → i < line_count → (line_sum (book_after meaning run).ledger m (i + 1) ≡ line cents i) × (answer meaning (asks_total m (i + 1)) (book_after meaning run) ≡ Ok (line cents i)))
   -- of a billed month due says yes exactly when the file would now price differently on some line
-  pub due : (run : Run) (m : ℕ) → IsBilled m (reached meaning run) → (then now : List ℤ) → Latest meaning run.calls (begun run) m then → priced meaning (reached meaning run) m ≡ Ok now → (yes : Bool) × (answer meaning (asks_due m) (reached meaning run) ≡ Ok yes) × Decides yes ((i : ℕ) × (i < line_count) × (line now i ≢ line then i))
+  pub due : (run : Run) (m : ℕ) → IsBilled m (book_after meaning run) → (then now : List ℤ) → Latest meaning run.calls (begun run) m then → priced meaning (book_after meaning run) m ≡ Ok now → (yes : Bool) × (answer meaning (asks_due m) (book_after meaning run) ≡ Ok yes) × Decides yes ((i : ℕ) × (i < line_count) × (line now i ≢ line then i))
   -- and is refused exactly when the schedule now refuses
-  pub refuses : (run : Run) (m : ℕ) → IsBilled m (reached meaning run) → (fault : Fault) → priced meaning (reached meaning run) m ≡ Err fault → answer meaning (asks_due m) (reached meaning run) ≡ Err (LinePastLimit m fault)
+  pub refuses : (run : Run) (m : ℕ) → IsBilled m (book_after meaning run) → (fault : Fault) → priced meaning (book_after meaning run) m ≡ Err fault → answer meaning (asks_due m) (book_after meaning run) ≡ Err (LinePastLimit m fault)
   -- nothing else enters a bill: where two books under schedules of one meaning agree, and neither month is due, each line adds up alike
-  pub alike : (other : Meaning) → ((facts : PlainFacts) (hours : List HourRow) → meaning facts hours ≡ other facts hours) → (run run' : Run) (m n : ℕ) → IsBilled m (reached meaning run) → IsBilled n (reached other run') → Agree (reached meaning run) m (reached other run') n → answer meaning (asks_due m) (reached meaning run) ≡ Ok false → answer other (asks_due n) (reached other run') ≡ Ok false → (i : ℕ) → i < line_count → line_sum (reached meaning run).ledger m (i + 1) ≡ line_sum (reached other run').ledger n (i + 1)
+  pub alike : (other : Meaning) → ((facts : PlainFacts) (hours : List HourRow) → meaning facts hours ≡ other facts hours) → (run run' : Run) (m n : ℕ) → IsBilled m (book_after meaning run) → IsBilled n (book_after other run') → Agree (book_after meaning run) m (book_after other run') n → answer meaning (asks_due m) (book_after meaning run) ≡ Ok false → answer other (asks_due n) (book_after other run') ≡ Ok false → (i : ℕ) → i < line_count → line_sum (book_after meaning run).ledger m (i + 1) ≡ line_sum (book_after other run').ledger n (i + 1)
   -- of a final month due says no however the run goes on, and its sums never move
-  pub final : (run : Run) (m : ℕ) → IsFinal m (reached meaning run) → (more : List Call) → IsFinal m (performed meaning more (reached meaning run)) × (answer meaning (asks_due m) (performed meaning more (reached meaning run)) ≡ Ok false) × ((l : ℕ) → line_sum (performed meaning more (reached meaning run)).ledger m l ≡ line_sum (reached meaning run).ledger m l)
+  pub final : (run : Run) (m : ℕ) → IsFinal m (book_after meaning run) → (more : List Call) → IsFinal m (performed meaning more (book_after meaning run)) × (answer meaning (asks_due m) (performed meaning more (book_after meaning run)) ≡ Ok false) × ((l : ℕ) → line_sum (performed meaning more (book_after meaning run)).ledger m l ≡ line_sum (book_after meaning run).ledger m l)

@@ -4,7 +4,7 @@ use Rattle.std.specs.List.{AllByRecursion}
 use Rattle.std.proofs.lemmas.Result.{err_from_is_err_and}
 use Rattle.std.proofs.lemmas.Bool.{and_parts, cond-true, cond-false, false≢true, le-ltb, leb-true, lt-ltb}
 use Rattle.ledger.specs.declared.entry.Entry.{Entry}
-use Rattle.store.specs.Months.{Month, first_short, reached}
+use Rattle.store.specs.Months.{Month, first_short, has_reached}
 use Rattle.store.specs.declared.state.State.{State}
 use Rattle.tariff.specs.Pricing.{Meaning}
 use Rattle.tariff.specs.declared.refusal.Refusal.{Refusal}
@@ -14,7 +14,7 @@ use Rattle.book.specs.Calls.{Call, Post, Reply, posts}
 use Rattle.book.specs.Found.{InBook, IsClosed, NotFinal}
 use Rattle.book.specs.Steps.{after, answer, answered, reply, taken}
 use Rattle.book.specs.Table.{Row, blank_book, earlier_short, first_holding, month_final, no_such_month, post_rows, refused}
-use Rattle.book.specs.Views.{Opened, View, has_reached, place}
+use Rattle.book.specs.Views.{Opened, View, month_has_reached, place}
 use Rattle.book.specs.declared.book.Book.{Book}
 use Rattle.book.specs.declared.found.Found.{Found}
 
@@ -88,9 +88,9 @@ pub numbered : (m : ℕ) (v : View) (found : Found) → InBook m v found → fou
 numbered m v found is = omega (arith, is.number, is.at, leb-true 1 m (and_parts _ _ is.month).0)
 
 -- the state that a call found the month in
-module _ (m : ℕ) (v : View) (found : Found) (is : InBook m v found) (state : State) (told : Bool) (test : told ≡ reached state found.state) where
-  pub found_state : has_reached state m v ≡ told
-  found_state = ap (reached state) (sym is.state) ∙ sym test
+module _ (m : ℕ) (v : View) (found : Found) (is : InBook m v found) (state : State) (told : Bool) (test : told ≡ has_reached state found.state) where
+  pub found_state : month_has_reached state m v ≡ told
+  found_state = ap (has_reached state) (sym is.state) ∙ sym test
 
 -- what refuses the month that was found refuses the one that the caller named
 pub short_named : (m : ℕ) (v : View) (found : Found) → InBook m v found → (state : State) (refusal : Refusal) → ((earlier_short state found.month v).holds ≡ true) × (refusal ≡ (earlier_short state found.month v).refusal) → ((earlier_short state m v).holds ≡ true) × (refusal ≡ (earlier_short state m v).refusal)

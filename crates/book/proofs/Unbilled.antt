@@ -2,25 +2,25 @@
 use Rattle.std.proofs.Common.{◌≡◌, ℕ, ◌+◌, ◌<◌, true, false, List, [], ◌∷◌, ◌++◌, length, get_or, ℤ, pos, Ok, Err, Result, OnOk, OnErr, sym, refl, ap, ◌∙◌, inl, inr, arith}
 use Rattle.std.proofs.lemmas.List.{get_or_append_left, get_or_past, get_or-set_other, get_or-set_same}
 use Rattle.std.proofs.lemmas.Bool.{cases_eq, cases_lt, true≢false}
-use Rattle.ledger.specs.Entries.{entries_for, line_sum, owed, sums}
+use Rattle.ledger.specs.Entries.{entries_for, line_sum, entries_owed, sums}
 use Rattle.ledger.specs.Ledgers.{entries_of}
 use Rattle.ledger.specs.declared.ledger.Ledger.{Ledger}
 use Rattle.ledger.specs.declared.ledger.NoRoom.{NoRoom}
 use Rattle.ledger.specs.declared.entry.Entry.{Entry}
-use Rattle.ledger.specs.declared.entry.Letter.{Letter}
-use Rattle.ledger.specs.declared.entry.Letter.TheVariants.{Bill, TrueUp}
+use Rattle.ledger.specs.declared.entry.EntryKind.{EntryKind}
+use Rattle.ledger.specs.declared.entry.EntryKind.TheVariants.{Bill, TrueUp}
 use Rattle.ledger.proofs.Sums.{differences_none, get_or_sums, length_sums, written_other_month}
-use Rattle.store.specs.Months.{Month, altered, fresh, no_month, reached, with_state}
+use Rattle.store.specs.Months.{Month, months_with, new_month, no_month, has_reached, with_state}
 use Rattle.store.specs.declared.state.State.TheVariants.{Billed}
 use Rattle.tariff.specs.Limits.{line_count}
 
 abbrev pub Unbilled : List Month → List Entry → Type 0
 Unbilled months entries =
-    (k : ℕ) → reached Billed (get_or months k no_month).state ≡ false → (line : ℕ) → line_sum entries (k + 1) line ≡ pos 0
+    (k : ℕ) → has_reached Billed (get_or months k no_month).state ≡ false → (line : ℕ) → line_sum entries (k + 1) line ≡ pos 0
 
 module _ (months : List Month) (entries : List Entry) (unbilled : Unbilled months entries) (at m : ℕ) (is : m ≡ at + 1) (amounts : List ℤ) where
   -- a first bill writes the amounts themselves
-  pub bill_owed : reached Billed (get_or months at no_month).state ≡ false → owed Bill m amounts entries ≡ entries_for Bill m amounts
+  pub bill_owed : has_reached Billed (get_or months at no_month).state ≡ false → entries_owed Bill m amounts entries ≡ entries_for Bill m amounts
   bill_owed opened =
       ap (entries_for Bill m)
       (differences_none amounts (sums entries m)
@@ -32,34 +32,34 @@ module _ (months : List Month) (entries : List Entry) (unbilled : Unbilled month
 
   module _ (counted : length amounts ≡ line_count) where
     -- entries of one month count in no other
-    others : (letter : Letter) (months' : List Month) → ((k : ℕ) → reached Billed (get_or months' k no_month).state ≡ false → (k ≡ at → ⊥) × (reached Billed (get_or months k no_month).state ≡ false)) → Unbilled months' (entries ++ owed letter m amounts entries)
-    others letter months' spared k opened line =
-        written_other_month letter entries m amounts counted (k + 1) line (λ e. (spared k opened).0 (omega arith)) ∙ unbilled k (spared k opened).1 line
+    others : (kind : EntryKind) (months' : List Month) → ((k : ℕ) → has_reached Billed (get_or months' k no_month).state ≡ false → (k ≡ at → ⊥) × (has_reached Billed (get_or months k no_month).state ≡ false)) → Unbilled months' (entries ++ entries_owed kind m amounts entries)
+    others kind months' spared k opened line =
+        written_other_month kind entries m amounts counted (k + 1) line (λ e. (spared k opened).0 (omega arith)) ∙ unbilled k (spared k opened).1 line
 
-    pub unbilled_billed : at < length months → Unbilled (altered at (with_state Billed) months) (entries ++ owed Bill m amounts entries)
+    pub unbilled_billed : at < length months → Unbilled (months_with at (with_state Billed) months) (entries ++ entries_owed Bill m amounts entries)
     unbilled_billed there =
-        others Bill (altered at (with_state Billed) months)
+        others Bill (months_with at (with_state Billed) months)
         (λ k opened.
         elim (cases_eq k at) [
           | inl same ↦
               let own = get_or-set_same months at (with_state Billed (get_or months at no_month)) no_month there in
-              let now : true ≡ false = sym (ap (λ month. reached Billed month.state) own) ∙ ap (λ j. reached Billed (get_or (altered at (with_state Billed) months) j no_month).state) (sym same) ∙ opened in
+              let now : true ≡ false = sym (ap (λ month. has_reached Billed month.state) own) ∙ ap (λ j. has_reached Billed (get_or (months_with at (with_state Billed) months) j no_month).state) (sym same) ∙ opened in
               absurd (true≢false now)
           | inr other ↦
               let old = get_or-set_other months at k (with_state Billed (get_or months at no_month)) no_month other in
-              (other, sym (ap (λ month. reached Billed month.state) old) ∙ opened)
+              (other, sym (ap (λ month. has_reached Billed month.state) old) ∙ opened)
         ])
 
-    pub unbilled_trued : reached Billed (get_or months at no_month).state ≡ true → (r : Result ℕ NoRoom) (old new : Ledger) → entries_of old ≡ entries → OnOk r (entries_of new ≡ entries ++ owed TrueUp m amounts entries) → OnErr r (new ≡ old) → Unbilled months (entries_of new)
+    pub unbilled_trued : has_reached Billed (get_or months at no_month).state ≡ true → (r : Result ℕ NoRoom) (old new : Ledger) → entries_of old ≡ entries → OnOk r (entries_of new ≡ entries ++ entries_owed TrueUp m amounts entries) → OnErr r (new ≡ old) → Unbilled months (entries_of new)
     unbilled_trued billed (Ok count) old new is written _ =
         rw written
         (others TrueUp months
-        (λ k opened. (λ same. true≢false (sym billed ∙ ap (λ j. reached Billed (get_or months j no_month).state) (sym same) ∙ opened), opened)))
+        (λ k opened. (λ same. true≢false (sym billed ∙ ap (λ j. has_reached Billed (get_or months j no_month).state) (sym same) ∙ opened), opened)))
     unbilled_trued billed (Err no_room) old new is _ kept = rw (kept, is) unbilled
 
 -- a month that was just started has no entries yet
-never_billed : reached Billed no_month.state ≡ false
-unfolding no_month fresh
+never_billed : has_reached Billed no_month.state ≡ false
+unfolding no_month new_month
 never_billed = refl
 
 pub unbilled_started : (months : List Month) (entries : List Entry) → Unbilled months entries → (month : Month) → Unbilled (months ++ month ∷ []) entries

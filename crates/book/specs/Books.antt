@@ -1,7 +1,7 @@
 -- What a book in memory holds, and what a call makes of it.
 use Rattle.std.specs.Prelude.{◌≡◌, true, is_err, Some, None, Option, Result}
 use Rattle.ledger.specs.Ledgers.{entries_of, room_of}
-use Rattle.store.specs.Stores.{before_of, capacity_of, months_of}
+use Rattle.store.specs.Stores.{earlier_peaks_of, capacity_of, months_of}
 use Rattle.tariff.specs.Pricing.{Meaning}
 use Rattle.tariff.specs.declared.refusal.Refusal.{Refusal}
 use Rattle.book.specs.Calls.{Call, Reply}
@@ -17,7 +17,7 @@ opened_of None = None
 abbrev pub view : Book → View
 view book = record {
   point = opened_of book.point;
-  before = before_of book.store;
+  before = earlier_peaks_of book.store;
   months = months_of book.store;
   ledger = entries_of book.ledger;
   capacity = capacity_of book.store;

@@ -4,7 +4,7 @@ use Rattle.store.specs.declared.state.State.TheVariants.{Final}
 use Rattle.tariff.specs.declared.refusal.Refusal.{Refusal}
 use Rattle.book.specs.Books.{opened_of}
 use Rattle.book.specs.Table.{Row, blank_book, first_holding, month_final, no_such_month}
-use Rattle.book.specs.Views.{View, has_reached, is_month, month_at, place}
+use Rattle.book.specs.Views.{View, month_has_reached, is_month, month_at, place}
 use Rattle.book.specs.declared.found.Found.{Found}
 
 -- a month of an opened book
@@ -24,7 +24,7 @@ NotInBook m v refusal = (rows : List Row) → first_holding (blank_book m v ∷ 
 
 -- a month that is not final
 abbrev pub NotFinal : ℕ → View → Found → Type 0
-NotFinal m v found = InBook m v found × (has_reached Final m v ≡ false)
+NotFinal m v found = InBook m v found × (month_has_reached Final m v ≡ false)
 
 abbrev pub IsClosed : ℕ → View → Refusal → Type 0
 IsClosed m v refusal =

@@ -2,7 +2,7 @@
 use Rattle.std.specs.Prelude.{ℕ, ◌+◌, ◌*◌, List, [], ◌∷◌, ◌++◌, length, is_some, Some, None, Ok, Err, Option, Result}
 use Rattle.ledger.specs.Entries.{line_sum}
 use Rattle.ledger.specs.declared.entry.Entry.{Entry}
-use Rattle.store.specs.Months.{Month, aged, altered, fresh, with_price, with_readings, with_scheduled, with_state}
+use Rattle.store.specs.Months.{Month, earlier_peaks, months_with, new_month, with_price, with_readings, with_scheduled, with_state}
 use Rattle.store.specs.declared.state.State.TheVariants.{Billed, Final}
 use Rattle.tariff.specs.Pricing.{Meaning}
 use Rattle.tariff.specs.declared.refusal.Refusal.{Refusal}
@@ -32,7 +32,7 @@ with_ledger ledger v = record {
 }
 
 abbrev pub in_month : ℕ → (Month → Month) → View → View
-in_month m alter v = with_months (altered (place m) alter v.months) v
+in_month m alter v = with_months (months_with (place m) alter v.months) v
 
 -- a month with a post on file
 abbrev pub with_post : Post → Month → Month
@@ -45,13 +45,13 @@ with_post (scheduled hour kw) = with_scheduled hour kw
 abbrev pub after : Meaning → Call → View → View
 after meaning (opens code contract substation carried) v = record {
   point = Some (record { code = code; contract = contract; substation = substation });
-  before = aged carried;
+  before = earlier_peaks carried;
   months = v.months;
   ledger = v.ledger;
   capacity = v.capacity;
   room = v.room;
 }
-after meaning (starts days) v = with_months (v.months ++ (fresh days ∷ [])) v
+after meaning (starts days) v = with_months (v.months ++ (new_month days ∷ [])) v
 after meaning (posts m post) v = in_month m (with_post post) v
 after meaning (bills m) v = in_month m (with_state Billed) (with_ledger (v.ledger ++ bill_entries meaning v m) v)
 after meaning (trues_up m) v = with_ledger (v.ledger ++ true_up_entries meaning v m) v

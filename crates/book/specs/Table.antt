@@ -3,8 +3,8 @@ use Rattle.std.specs.Prelude.{ℕ, ◌+◌, ◌-◌, ◌<◌, Bool, true, false,
 use Rattle.std.specs.Str.{bytes_eq}
 use Rattle.ledger.specs.Entries.{differences, entries_for}
 use Rattle.ledger.specs.declared.entry.Entry.{Entry}
-use Rattle.ledger.specs.declared.entry.Letter.TheVariants.{Bill, TrueUp}
-use Rattle.store.specs.Months.{carriable, day_fault, first_short, hours_of, missing, price_within, quarters_of, reading_within, scheduled_within}
+use Rattle.ledger.specs.declared.entry.EntryKind.TheVariants.{Bill, TrueUp}
+use Rattle.store.specs.Months.{can_carry, day_fault, first_short, hours_of, missing, price_within, quarters_of, reading_within, scheduled_within}
 use Rattle.store.specs.declared.state.State.{State}
 use Rattle.store.specs.declared.state.State.TheVariants.{Billed, Final}
 use Rattle.tariff.specs.Limits.{most_demand, line_count}
@@ -15,7 +15,7 @@ use Rattle.tariff.specs.declared.refusal.Fault.{Fault}
 use Rattle.tariff.specs.declared.refusal.Refusal.{Refusal}
 use Rattle.tariff.specs.declared.refusal.Refusal.TheVariants.{BookBlank, BookOpen, OpeningOutside, NoMonthFree, DaysOutside, NoSuchMonth, MonthFinal, NoSuchPlace, OtherPoint, OutsideLimit, Missing, MonthBilled, MonthOpen, EarlierMonth, LinePastLimit, LedgerFull, MonthDue}
 use Rattle.book.specs.Calls.{Call, opens, starts, posts, bills, trues_up, finalises, asks_due, asks_total, Post, reading, day, price, scheduled}
-use Rattle.book.specs.Views.{View, Opened, altered_line, amounts_in, has_reached, is_month, month_at, place, priced, sums_of}
+use Rattle.book.specs.Views.{View, Opened, altered_line, amounts_in, month_has_reached, is_month, month_at, place, priced, sums_of}
 
 pub record Row : Type 0 where
   pub holds : Bool
@@ -48,7 +48,7 @@ is_of code None = false
 
 abbrev pub opening_within : ℕ → ℕ → List ℕ → Bool
 opening_within contract substation carried =
-    nat_le 1 contract && (nat_le contract substation && (nat_le substation most_demand && carriable carried))
+    nat_le 1 contract && (nat_le contract substation && (nat_le substation most_demand && can_carry carried))
 
 abbrev pub days_within : ℕ → Bool
 days_within days = nat_le 28 days && nat_le days 31
@@ -71,10 +71,10 @@ abbrev pub no_such_month : ℕ → View → Row
 no_such_month m v = row (not (is_month m v)) (NoSuchMonth m)
 
 abbrev pub month_final : ℕ → View → Row
-month_final m v = row (has_reached Final m v) (MonthFinal m)
+month_final m v = row (month_has_reached Final m v) (MonthFinal m)
 
 abbrev pub month_open : ℕ → View → Row
-month_open m v = row (not (has_reached Billed m v)) (MonthOpen m)
+month_open m v = row (not (month_has_reached Billed m v)) (MonthOpen m)
 
 -- the lowest of the earlier months that has not reached a state
 abbrev pub earlier_short : State → ℕ → View → Row
@@ -111,7 +111,7 @@ post_rows m (scheduled hour kw) v =
 abbrev pub bill_rows : Meaning → ℕ → View → List Row
 bill_rows meaning m v =
     row (is_some (missing (month_at m v))) (Missing m (named (missing (month_at m v))))
-    ∷ row (has_reached Billed m v) (MonthBilled m)
+    ∷ row (month_has_reached Billed m v) (MonthBilled m)
     ∷ earlier_short Billed m v
     ∷ past_limit meaning m v
     ∷ too_few (bill_entries meaning v m) m v

@@ -3,7 +3,7 @@ use Rattle.std.specs.Prelude.{ℕ, ◌-◌, Bool, ◌&&◌, List, [], map, lengt
 use Rattle.std.specs.List.{range_with_len}
 use Rattle.ledger.specs.Entries.{first_differing, sums}
 use Rattle.ledger.specs.declared.entry.Entry.{Entry}
-use Rattle.store.specs.Months.{Month, aged, apparent, earlier_high, hour_rows, no_month, peak, reached}
+use Rattle.store.specs.Months.{Month, earlier_peaks, peak_kva, ratchet_peak, hour_rows, no_month, peak, has_reached}
 use Rattle.store.specs.declared.state.State.{State}
 use Rattle.tariff.specs.Limits.{line_count}
 use Rattle.tariff.specs.Pricing.{Meaning, Outcome}
@@ -31,7 +31,7 @@ pub record View : Type 0 where
 abbrev pub blank : ℕ → ℕ → View
 blank capacity room = record {
   point = None;
-  before = aged [];
+  before = earlier_peaks [];
   months = [];
   ledger = [];
   capacity = capacity;
@@ -48,8 +48,8 @@ is_month m v = nat_le 1 m && nat_le m (length v.months)
 abbrev pub month_at : ℕ → View → Month
 month_at m v = slice_index_or v.months (place m) no_month
 
-abbrev pub has_reached : State → ℕ → View → Bool
-has_reached state m v = reached state (month_at m v).state
+abbrev pub month_has_reached : State → ℕ → View → Bool
+month_has_reached state m v = has_reached state (month_at m v).state
 
 abbrev pub contract_of : Option Opened → ℕ
 contract_of (Some point) = point.contract
@@ -65,8 +65,8 @@ facts_of v m = record {
   contract = contract_of v.point;
   substation = substation_of v.point;
   peak = peak (month_at m v);
-  apparent = apparent (month_at m v);
-  earlier = earlier_high v.before v.months (place m);
+  peak_kva = peak_kva (month_at m v);
+  ratchet_peak = ratchet_peak v.before v.months (place m);
 }
 
 -- what a schedule makes of the file, as it stands

@@ -1,6 +1,6 @@
 // The pricing of a month as the file stands.
 ghost use Rattle.std.specs.Prelude.{◌≡◌};
-ghost use Rattle.tariff.specs.Pricing.{plain, refused_in};
+ghost use Rattle.tariff.specs.Pricing.{plain_amounts, month_result};
 ghost use Rattle.book.specs.Books.{view};
 ghost use Rattle.book.specs.Found.{InBook};
 ghost use Rattle.book.specs.Views.{facts_of, priced};
@@ -20,16 +20,16 @@ impl Book<'_> {
         };
         let Demand {
             peak,
-            apparent,
-            earlier,
+            peak_kva,
+            ratchet_peak,
         } = demand;
         Facts {
-            plain: PlainFacts {
+            plain_amounts: PlainFacts {
                 contract: found.point.contract,
                 substation: found.point.substation,
                 peak,
-                apparent,
-                earlier,
+                peak_kva,
+                ratchet_peak,
             },
         }
     }
@@ -37,7 +37,7 @@ impl Book<'_> {
     // A schedule's fault is refused with the month.
     pub(crate) fn price<S: Schedule>(&self, found: &Found, schedule: &S) -> Result<Amounts, Refusal>
         requires { InBook found.now.month (view self.now) found.now }
-        ensures { plain result ≡ refused_in found.now.month (priced (S.meaning schedule.now) (view self.now) found.now.month) }
+        ensures { plain_amounts result ≡ month_result found.now.month (priced (S.meaning schedule.now) (view self.now) found.now.month) }
     {
         let facts = self.facts(found);
         let month_hours = self.store.hours(found.at);

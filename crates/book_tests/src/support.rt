@@ -1,6 +1,6 @@
 // What the tests share.
 use book::Book;
-use ledger::{Entry, Letter};
+use ledger::{Entry, EntryKind};
 use store::{Hour, Quarter, Reading};
 use tariff::{LINES, Line, Refusal};
 
@@ -10,7 +10,7 @@ pub(crate) const CODE: [u8; 8] = *b"POINT001";
 // What stands in a ledger's memory before anything is written to it.
 pub(crate) const UNWRITTEN: Entry = Entry {
     month: 1,
-    letter: Letter::Bill,
+    kind: EntryKind::Bill,
     line: 1,
     cents: 1,
 };
@@ -82,7 +82,7 @@ pub(crate) fn start_full(book: &mut Book<'_>) -> Result<u32, Refusal> {
 pub(crate) fn totals(book: &Book<'_>, month: u32) -> Result<[i64; LINES], Refusal> {
     let mut cents = [0; LINES];
     for line in Line::ALL.iter() {
-        cents[line.place()] = book.total(month, line.number().into())?;
+        cents[line.index()] = book.total(month, line.number().into())?;
     }
     Ok(cents)
 }

@@ -1,7 +1,7 @@
 // Entries in print, in lent bytes.
 use crate::support::{CODE, LINES_BILLED, Memory, UNWRITTEN, start_full};
 use book::Book;
-use ledger::{Entry, Letter, MOST_BYTES};
+use ledger::{Entry, EntryKind, MOST_BYTES};
 use rates::dts::DTS_2007;
 use std::test::Fail;
 use store::Reading;

@@ -6,7 +6,7 @@ use crate::schedule::Chosen;
 use anyhow::{Context, Result};
 use book::Book;
 use journal::{Call, read};
-use ledger::{Entry, Letter};
+use ledger::{Entry, EntryKind};
 use std::alloc::Global;
 use std::io::Write;
 use store::{Hour, Quarter};
@@ -14,7 +14,7 @@ use store::{Hour, Quarter};
 // What the ledger's memory holds before an entry is written.
 const UNWRITTEN: Entry = Entry {
     month: 0,
-    letter: Letter::Bill,
+    kind: EntryKind::Bill,
     line: 0,
     cents: 0,
 };

@@ -8,7 +8,7 @@ use Rattle.piles.specs.declared.rate.RateDraft.{RateDraft}
 use Rattle.piles.specs.declared.rider.RiderDraft.{RiderDraft}
 use Rattle.piles.specs.declared.rider.RiderSheet.{RiderSheet}
 use Rattle.tariff.specs.Pricing.{Meaning}
-use Rattle.tariff.specs.Sheets.{RefusedFigure}
+use Rattle.tariff.specs.Sheets.{IsFirstOutside}
 use Rattle.exports.specs.Sheets.{rate_in, rider_in}
 use Rattle.exports.specs.declared.failure.Failure.{Failure}
 use Rattle.exports.specs.declared.failure.Failure.TheVariants.{Damaged, NoMemory, Refused}
@@ -27,12 +27,12 @@ chosen_meaning sheet sheets = piled rider_line rider_number rider_adds (rate_mea
 -- a record of no rate, or a draft that is refused by its first figure outside
 abbrev pub RateFails : RateRecord → Failure → Type 0
 RateFails rate Damaged = rate_in rate ≡ None
-RateFails rate (Refused refusal) = (draft : RateDraft) × (rate_in rate ≡ Some draft) × RefusedFigure (rate_figures draft) refusal
+RateFails rate (Refused refusal) = (draft : RateDraft) × (rate_in rate ≡ Some draft) × IsFirstOutside (rate_figures draft) refusal
 RateFails rate NoMemory = ⊥
 
 abbrev pub RiderFails : RiderRecord → Failure → Type 0
 RiderFails rider Damaged = rider_in rider ≡ None
-RiderFails rider (Refused refusal) = (draft : RiderDraft) × (rider_in rider ≡ Some draft) × RefusedFigure (rider_figures draft) refusal
+RiderFails rider (Refused refusal) = (draft : RiderDraft) × (rider_in rider ≡ Some draft) × IsFirstOutside (rider_figures draft) refusal
 RiderFails rider NoMemory = ⊥
 
 -- why there is no pile: the rate; else the lowest of the riders that fails, or no memory to hold the next

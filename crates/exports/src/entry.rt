@@ -2,7 +2,7 @@
 ghost use Rattle.std.specs.Prelude.{◌≡◌, ◌≤◌, ◌++◌, length, map, drop};
 ghost use Rattle.exports.specs.Ledgers.{entry_record};
 
-use ledger::{Entry, Letter};
+use ledger::{Entry, EntryKind};
 
 // Month and line from 1; `letter` is 0 for a bill and 1 for a true-up.
 #[repr(C)]
@@ -20,9 +20,9 @@ impl From<&Entry> for EntryRecord {
     fn from(entry: &Entry) -> EntryRecord {
         EntryRecord {
             month: entry.month.into(),
-            letter: match entry.letter {
-                Letter::Bill => 0,
-                Letter::TrueUp => 1,
+            letter: match entry.kind {
+                EntryKind::Bill => 0,
+                EntryKind::TrueUp => 1,
             },
             line: entry.line.into(),
             cents: entry.cents,

@@ -5,7 +5,7 @@ ghost use Rattle.book.specs.Books.{view};
 ghost use Rattle.book.specs.Views.{blank};
 
 use book::Book;
-use ledger::{Entry, Letter};
+use ledger::{Entry, EntryKind};
 use std::alloc::{AllocError, Global};
 use store::{Hour, Quarter};
 
@@ -18,7 +18,7 @@ const MONTH_HOURS: usize = 744;
 // What stands in an entry that no call wrote; a book never reads it.
 const UNWRITTEN: Entry = Entry {
     month: 0,
-    letter: Letter::Bill,
+    kind: EntryKind::Bill,
     line: 0,
     cents: 0,
 };

@@ -8,9 +8,9 @@ use Rattle.std.proofs.lemmas.Bool.Decides.{nat_tests}
 use Rattle.std.proofs.lemmas.Fmt.{length_signed_le}
 use Rattle.std.proofs.lemmas.Int.{ints}
 use Rattle.ledger.specs.Entries.{SumsWithin, is_for}
-use Rattle.ledger.specs.Texts.{Laid, entry_line, letter_text, most_owed, no_entry}
-use Rattle.ledger.specs.declared.entry.Letter.{Letter}
-use Rattle.ledger.specs.declared.entry.Letter.TheVariants.{Bill, TrueUp}
+use Rattle.ledger.specs.Texts.{Laid, entry_line, kind_letter, most_owed, no_entry}
+use Rattle.ledger.specs.declared.entry.EntryKind.{EntryKind}
+use Rattle.ledger.specs.declared.entry.EntryKind.TheVariants.{Bill, TrueUp}
 use Rattle.ledger.proofs.Turns.{line_sum_more}
 use Rattle.ledger.specs.declared.entry.Entry.{Entry}
 
@@ -33,14 +33,14 @@ module _ (text before bytes more : List ℕ) (at : ℕ) (laid : Laid text before
 pub nothing_laid : (before : List ℕ) → Laid [] before 0 before
 nothing_laid before = record { ends = refl; within = omega arith; now = refl }
 
-in_line : (month letter line cents space end : List ℕ) → ((((((month ++ space) ++ letter) ++ space) ++ line) ++ space) ++ cents) ++ end ≡ (month ++ (space ++ (letter ++ (space ++ (line ++ (space ++ cents)))))) ++ end
-in_line month letter line cents space end = search (rules, append_assoc)
+in_line : (month kind line cents space end : List ℕ) → ((((((month ++ space) ++ kind) ++ space) ++ line) ++ space) ++ cents) ++ end ≡ (month ++ (space ++ (kind ++ (space ++ (line ++ (space ++ cents)))))) ++ end
+in_line month kind line cents space end = search (rules, append_assoc)
 
 -- the pieces of an entry's line, one behind the other
-pub line_laid : (entry : Entry) (before bytes month letter line cents : List ℕ) (at : ℕ) → month ≡ decimal entry.month → letter ≡ letter_text entry.letter → line ≡ decimal entry.line → cents ≡ signed_decimal entry.cents → Laid (((((((month ++ codes " ") ++ letter) ++ codes " ") ++ line) ++ codes " ") ++ cents) ++ codes "\n") before at bytes → Laid (entry_line entry) before at bytes
-line_laid entry before bytes month letter line cents at is_month is_letter is_line is_cents laid =
-    let whole = in_line month letter line cents (codes " ") (codes "\n") in
-    let is : ((((((month ++ codes " ") ++ letter) ++ codes " ") ++ line) ++ codes " ") ++ cents) ++ codes "\n" ≡ entry_line entry = whole ∙ rw (is_month, is_letter, is_line, is_cents) refl in
+pub line_laid : (entry : Entry) (before bytes month kind line cents : List ℕ) (at : ℕ) → month ≡ decimal entry.month → kind ≡ kind_letter entry.kind → line ≡ decimal entry.line → cents ≡ signed_decimal entry.cents → Laid (((((((month ++ codes " ") ++ kind) ++ codes " ") ++ line) ++ codes " ") ++ cents) ++ codes "\n") before at bytes → Laid (entry_line entry) before at bytes
+line_laid entry before bytes month kind line cents at is_month is_letter is_line is_cents laid =
+    let whole = in_line month kind line cents (codes " ") (codes "\n") in
+    let is : ((((((month ++ codes " ") ++ kind) ++ codes " ") ++ line) ++ codes " ") ++ cents) ++ codes "\n" ≡ entry_line entry = whole ∙ rw (is_month, is_letter, is_line, is_cents) refl in
     subst (λ text. Laid text before at bytes) is laid
 
 -- an entry takes a sum within the limit of an amount to one within it
@@ -57,12 +57,12 @@ mag_few : (cents : ℤ) → mag cents ≤ unsigned_abs cents
 mag_few (pos n) = omega arith
 mag_few (negsuc n) = omega arith
 
-letter_is_one : (letter : Letter) → length (letter_text letter) ≡ 1
+letter_is_one : (kind : EntryKind) → length (kind_letter kind) ≡ 1
 letter_is_one Bill = refl
 letter_is_one TrueUp = refl
 
 -- one letter; a sign and twelve digits
-pub pieces_fit : (entry : Entry) (letter cents : List ℕ) → unsigned_abs entry.cents ≤ most_owed → letter ≡ letter_text entry.letter → cents ≡ signed_decimal entry.cents → (length letter ≡ 1) × (length cents ≤ 13)
-pieces_fit entry letter cents owed is_letter is_cents =
+pub pieces_fit : (entry : Entry) (kind cents : List ℕ) → unsigned_abs entry.cents ≤ most_owed → kind ≡ kind_letter entry.kind → cents ≡ signed_decimal entry.cents → (length kind ≡ 1) × (length cents ≤ 13)
+pieces_fit entry kind cents owed is_letter is_cents =
     let size = mag_few entry.cents in
-    (ap length is_letter ∙ letter_is_one entry.letter, rw is_cents (length_signed_le 12 entry.cents (omega arith) (omega arith)))
+    (ap length is_letter ∙ letter_is_one entry.kind, rw is_cents (length_signed_le 12 entry.cents (omega arith) (omega arith)))

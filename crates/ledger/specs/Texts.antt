@@ -3,19 +3,19 @@ use Rattle.std.specs.Prelude.{◌≡◌, ℕ, ◌*◌, ◌≤◌, cond, List, �
 use Rattle.std.specs.Fmt.{signed_decimal}
 use Rattle.tariff.specs.Limits.{most_cents}
 use Rattle.ledger.specs.declared.entry.Entry.{Entry}
-use Rattle.ledger.specs.declared.entry.Letter.{Letter}
-use Rattle.ledger.specs.declared.entry.Letter.TheVariants.{Bill, TrueUp}
+use Rattle.ledger.specs.declared.entry.EntryKind.{EntryKind}
+use Rattle.ledger.specs.declared.entry.EntryKind.TheVariants.{Bill, TrueUp}
 use Rattle.ledger.specs.declared.printed.NoText.{NoText}
 use Rattle.ledger.specs.declared.printed.NoText.TheVariants.{NoSuchEntry, TooFewBytes}
 
-abbrev pub letter_text : Letter → List ℕ
-letter_text Bill = codes "B"
-letter_text TrueUp = codes "T"
+abbrev pub kind_letter : EntryKind → List ℕ
+kind_letter Bill = codes "B"
+kind_letter TrueUp = codes "T"
 
 -- the month, the letter, the line and the cents, one space between
 abbrev pub entry_text : Entry → List ℕ
 entry_text entry =
-    decimal entry.month ++ (codes " " ++ (letter_text entry.letter ++ (codes " " ++ (decimal entry.line ++ (codes " " ++ signed_decimal entry.cents)))))
+    decimal entry.month ++ (codes " " ++ (kind_letter entry.kind ++ (codes " " ++ (decimal entry.line ++ (codes " " ++ signed_decimal entry.cents)))))
 
 -- as a line of its own
 abbrev pub entry_line : Entry → List ℕ
@@ -23,7 +23,7 @@ entry_line entry = entry_text entry ++ codes "\n"
 
 -- what is read past the last entry
 abbrev pub no_entry : Entry
-no_entry = record { month = 0; letter = Bill; line = 0; cents = pos 0 }
+no_entry = record { month = 0; kind = Bill; line = 0; cents = pos 0 }
 
 -- the line of an entry, by its place from 0
 abbrev pub line_at : ℕ → List Entry → List ℕ

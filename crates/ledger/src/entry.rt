@@ -1,13 +1,13 @@
 // An entry of the ledger.
 ghost use Rattle.std.specs.Prelude.{◌≡◌, Some, count_by};
 ghost use Rattle.ledger.specs.Entries.{is_for, is_written};
-ghost use Rattle.ledger.specs.Texts.{entry_text, letter_text};
+ghost use Rattle.ledger.specs.Texts.{entry_text, kind_letter};
 
 use std::fmt;
 
 // Whether an entry came from a bill or from a true-up.
 #[derive(Clone, Copy, PartialEq, Eq, Debug)]
-pub enum Letter {
+pub enum EntryKind {
     Bill,
     TrueUp,
 }
@@ -16,29 +16,29 @@ pub enum Letter {
 #[derive(Clone, Copy, PartialEq, Eq, Debug)]
 pub struct Entry {
     pub month: u8,
-    pub letter: Letter,
+    pub kind: EntryKind,
     pub line: u8,
     pub cents: i64,
 }
 
-impl Letter {
+impl EntryKind {
     // A bill has an entry for each line, a true-up only where there is something to true up.
     pub(crate) fn writes(self, cents: i64) -> bool
         ensures { result ≡ is_written self cents }
     {
         match self {
-            Letter::Bill => true,
-            Letter::TrueUp => cents != 0,
+            EntryKind::Bill => true,
+            EntryKind::TrueUp => cents != 0,
         }
     }
 
     // As it is printed.
     pub(crate) fn text(self) -> &'static str
-        ensures { result.now ≡ letter_text self }
+        ensures { result.now ≡ kind_letter self }
     {
         match self {
-            Letter::Bill => "B",
-            Letter::TrueUp => "T",
+            EntryKind::Bill => "B",
+            EntryKind::TrueUp => "T",
         }
     }
 
@@ -58,8 +58,8 @@ impl Entry {
     }
 }
 
-impl fmt::Display for Letter {
-    ghost output = { λ letter. Some (letter_text letter) };
+impl fmt::Display for EntryKind {
+    ghost output = { λ kind. Some (kind_letter kind) };
 
     fn fmt<W: fmt::Write>(&self, f: &mut fmt::Formatter<W>) -> fmt::Result {
         f.write_str(self.text())
@@ -72,10 +72,10 @@ impl fmt::Display for Entry {
     fn fmt<W: fmt::Write>(&self, f: &mut fmt::Formatter<W>) -> fmt::Result {
         let Entry {
             month,
-            letter,
+            kind,
             line,
             cents,
         } = self;
-        write!(f, "{month} {letter} {line} {cents}")
+        write!(f, "{month} {kind} {line} {cents}")
     }
 }

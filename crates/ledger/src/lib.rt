@@ -8,6 +8,6 @@ mod printed;
 mod totals;
 mod writes;
 
-pub use entry::{Entry, Letter};
+pub use entry::{Entry, EntryKind};
 pub use ledger::{Ledger, NoRoom};
 pub use printed::{MOST_BYTES, NoText};

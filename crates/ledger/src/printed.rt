@@ -40,14 +40,14 @@ impl Entry {
     {
         let Entry {
             month,
-            letter,
+            kind,
             line,
             cents,
         } = *self;
         let mut number = Buffer::new();
         let mut at = put(bytes, 0, number.format(month));
         at = put(bytes, at, " ");
-        at = put(bytes, at, letter.text());
+        at = put(bytes, at, kind.text());
         at = put(bytes, at, " ");
         at = put(bytes, at, number.format(line));
         at = put(bytes, at, " ");

@@ -23,12 +23,12 @@ fn words(alloc: Global, text: &str) -> Result<Vec<&str>, AllocError> {
 
 fn read_facts(words: &[&str]) -> Result<PlainFacts> {
     match *words {
-        [contract, substation, peak, apparent, earlier] => Ok(PlainFacts {
+        [contract, substation, peak, peak_kva, ratchet_peak] => Ok(PlainFacts {
             contract: contract.parse()?,
             substation: substation.parse()?,
             peak: peak.parse()?,
-            apparent: apparent.parse()?,
-            earlier: earlier.parse()?,
+            peak_kva: peak_kva.parse()?,
+            ratchet_peak: ratchet_peak.parse()?,
         }),
         _ => bail!("facts are C S P A H"),
     }
@@ -111,7 +111,7 @@ mod tests {
         };
         let facts = month.facts;
         assert_eq!(rt; (facts.contract, facts.substation), (5, 6));
-        assert_eq!(rt; (facts.peak, facts.apparent, facts.earlier), (7, 8, 9));
+        assert_eq!(rt; (facts.peak, facts.peak_kva, facts.ratchet_peak), (7, 8, 9));
         assert_eq!(rt; month.hours.len(), 3);
         for (row, wanted) in month
             .hours

@@ -1,6 +1,6 @@
 // A rider chosen at run time.
 ghost use Rattle.std.specs.Prelude.{◌≡◌, MatchResult};
-ghost use Rattle.tariff.specs.Sheets.{RefusedFigure};
+ghost use Rattle.tariff.specs.Sheets.{IsFirstOutside};
 ghost use Rattle.piles.specs.Riders.{drafted, rider_adds, rider_figures, rider_line, rider_number};
 ghost use Rattle.piles.specs.RiderBounds.{rider_bounded};
 
@@ -30,7 +30,7 @@ impl TryFrom<RiderDraft> for RiderSheet {
     type Error = Refusal;
 
     // sealed as the draft of that rider is
-    ghost try_from_gives = { λ draft result. MatchResult result (λ sheet. drafted sheet ≡ draft) (RefusedFigure (rider_figures draft)) };
+    ghost try_from_gives = { λ draft result. MatchResult result (λ sheet. drafted sheet ≡ draft) (IsFirstOutside (rider_figures draft)) };
 
     fn try_from(draft: RiderDraft) -> Result<RiderSheet, Refusal> {
         Ok(match draft {

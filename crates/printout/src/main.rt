@@ -4,7 +4,7 @@
 
 use audit::{Analyst, Answer, Request, audit};
 use book::Book;
-use ledger::{Entry, Letter, MOST_BYTES};
+use ledger::{Entry, EntryKind, MOST_BYTES};
 use rates::dts::{DTS_2007, DtsSheet};
 use std::alloc::{AllocError, Global};
 use std::vec;
@@ -102,7 +102,7 @@ fn run(rt: &HostRuntime) -> anyhow::Result<()> {
     let mut hours = [Hour::NEVER_POSTED; 1488];
     let nothing = Entry {
         month: 0,
-        letter: Letter::Bill,
+        kind: EntryKind::Bill,
         line: 0,
         cents: 0,
     };

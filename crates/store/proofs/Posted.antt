@@ -5,9 +5,9 @@ use lib.Seq.{sets}
 use mathlib.Core.List.{map-map}
 use Rattle.std.proofs.lemmas.List.{get_or-map, get_or_past, get_or-set_other, get_or-set_same, length-map, length-replicate, length-set, map-set, set_past, take-set-le}
 use Rattle.std.proofs.lemmas.Bool.{cases_eq, cases_lt, cond-true}
-use Rattle.store.specs.Months.{HourOnFile, Month, altered, fresh, hours_of, kw_of, no_month, price_within, quarters_of, ratchet, top, with_price, with_readings, with_scheduled, with_state}
+use Rattle.store.specs.Months.{HourOnFile, Month, months_with, new_month, hours_of, kw_of, no_month, price_within, quarters_of, ratchet, top, with_price, with_readings, with_scheduled, with_state}
 use Rattle.store.specs.Records.{first_record, hour_of, peak_in, reading_of, record_in, stretch}
-use Rattle.store.specs.Stores.{Alters, before_of, capacity_of, month_of, months_of}
+use Rattle.store.specs.Stores.{Alters, earlier_peaks_of, capacity_of, month_of, months_of}
 use Rattle.store.specs.declared.month.MonthRecord.{MonthRecord}
 use Rattle.store.specs.declared.quarter.Hour.{Hour}
 use Rattle.store.specs.declared.quarter.Quarter.{Quarter}
@@ -52,7 +52,7 @@ spared_month s t k same =
     month_parts t k _ _ _ _ same.days same.state same.readings same.hours ∙ sym (month_parts s k _ _ _ _ refl refl refl refl)
 
 -- nothing is written past the last month, and past a month's last quarter and hour
-unaltered : (s : Store) (k : ℕ) (alter : Month → Month) → altered k alter (months_of s) ≡ months_of s → Alters k alter s s
+unaltered : (s : Store) (k : ℕ) (alter : Month → Month) → months_with k alter (months_of s) ≡ months_of s → Alters k alter s s
 unaltered s k alter same = record { months = sym same; before = refl; capacity = refl }
 
 pub month_past : (s : Store) (k : ℕ) (alter : Month → Month) → s.started ≤ k → Alters k alter s s
@@ -60,7 +60,7 @@ month_past s k alter past =
     unaltered s k alter (set_past (months_of s) k (alter (get_or (months_of s) k no_month)) (omega (arith, length_months s)))
 
 months_length : (s : Store) (k : ℕ) → (length (get_or (months_of s) k no_month).readings ≡ quarters_of (get_or (months_of s) k no_month).days) × (length (get_or (months_of s) k no_month).hours ≡ hours_of (get_or (months_of s) k no_month).days)
-unfolding no_month fresh
+unfolding no_month new_month
 months_length s k =
     elim (cases_lt k s.started) [
       | inl there ↦
@@ -90,7 +90,7 @@ module _ (s t : Store) (k at : ℕ) (there : k < s.started) (below : at < hours_
       rw months (get_or_stretch 744 k (hours_of (record_at s k).days) (hours_in s) at _ below
       ∙ get_or-map hour_of s.memory.hours.now (744 * k + at) d _ (omega (arith, (record_at s k).length.1)))
 
-  months_with_hour : (alter : Month → Month) (hour : Hour) → t.started ≡ s.started → t.records ≡ s.records → t.memory.quarters.now ≡ s.memory.quarters.now → t.memory.hours.now ≡ set s.memory.hours.now (744 * k + at) hour → alter (month_of s k) ≡ record { days = (month_of s k).days; state = (month_of s k).state; readings = (month_of s k).readings; hours = set (month_of s k).hours at (hour_of hour) } → months_of t ≡ altered k alter (months_of s)
+  months_with_hour : (alter : Month → Month) (hour : Hour) → t.started ≡ s.started → t.records ≡ s.records → t.memory.quarters.now ≡ s.memory.quarters.now → t.memory.hours.now ≡ set s.memory.hours.now (744 * k + at) hour → alter (month_of s k) ≡ record { days = (month_of s k).days; state = (month_of s k).state; readings = (month_of s k).readings; hours = set (month_of s k).hours at (hour_of hour) } → months_of t ≡ months_with k alter (months_of s)
   months_with_hour alter hour started records quarters hours is =
       let months = month_parts s k _ _ _ _ refl refl refl refl in
       let written : hours_in t ≡ set (hours_in s) (744 * k + at) (hour_of hour) = ap (map hour_of) hours ∙ map-set hour_of s.memory.hours.now (744 * k + at) hour in
@@ -109,7 +109,7 @@ module _ (s t : Store) (k at : ℕ) (there : k < s.started) (below : at < hours_
       })
 
   alters_hour : (alter : Month → Month) (hour : Hour) → t.started ≡ s.started → t.records ≡ s.records → t.memory.quarters.now ≡ s.memory.quarters.now → t.memory.hours.now ≡ set s.memory.hours.now (744 * k + at) hour → alter (month_of s k) ≡ record { days = (month_of s k).days; state = (month_of s k).state; readings = (month_of s k).readings; hours = set (month_of s k).hours at (hour_of hour) } → Alters k alter s t
-  unfolding before_of capacity_of
+  unfolding earlier_peaks_of capacity_of
   alters_hour alter hour started records quarters hours is = record {
     months = months_with_hour alter hour started records quarters hours is;
     before = rw records refl;
@@ -135,12 +135,12 @@ module _ (s t : Store) (k : ℕ) (r : MonthRecord) (few : k < 48) (written : t.r
   pub record_other : (j : ℕ) → j ≢ k → record_at t j ≡ record_at s j
   record_other j other = rw written (get_or-set_other s.records (ratchet + k) (ratchet + j) r first_record (λ e. other (omega arith)))
 
-  pub before_kept : before_of t ≡ before_of s
-  unfolding before_of
+  pub before_kept : earlier_peaks_of t ≡ earlier_peaks_of s
+  unfolding earlier_peaks_of
   before_kept = rw written (ap (map (λ month. month.peak)) (take-set-le ratchet s.records (ratchet + k) r (omega arith)))
 
   -- the state alone
-  pub months_with_state : (state : State) → k < s.started → t.started ≡ s.started → t.memory ≡ s.memory → r.days ≡ (record_at s k).days → r.state ≡ state → months_of t ≡ altered k (with_state state) (months_of s)
+  pub months_with_state : (state : State) → k < s.started → t.started ≡ s.started → t.memory ≡ s.memory → r.days ≡ (record_at s k).days → r.state ≡ state → months_of t ≡ months_with k (with_state state) (months_of s)
   months_with_state state there started memory days now_state =
       let own = record_own in
       let months = month_parts s k _ _ _ _ refl refl refl refl in
@@ -182,7 +182,7 @@ module _ (s : Store) (k at : ℕ) (posted : List (Option Reading)) (fits : at + 
             cc
       ]
 
-  pub months_with_readings : (t : Store) (month : MonthRecord) (readings : List Reading) → k < s.started → map Some readings ≡ posted → at + length posted ≤ quarters_of (record_at s k).days → month.days ≡ (record_at s k).days → month.state ≡ (record_at s k).state → t.started ≡ s.started → t.records ≡ set s.records (ratchet + k) month → t.memory.quarters.now ≡ quarters → t.memory.hours.now ≡ s.memory.hours.now → months_of t ≡ altered k (with_readings at readings) (months_of s)
+  pub months_with_readings : (t : Store) (month : MonthRecord) (readings : List Reading) → k < s.started → map Some readings ≡ posted → at + length posted ≤ quarters_of (record_at s k).days → month.days ≡ (record_at s k).days → month.state ≡ (record_at s k).state → t.started ≡ s.started → t.records ≡ set s.records (ratchet + k) month → t.memory.quarters.now ≡ quarters → t.memory.hours.now ≡ s.memory.hours.now → months_of t ≡ months_with k (with_readings at readings) (months_of s)
   months_with_readings t month readings there are below days state started records memory hours =
       let months = month_parts s k _ _ _ _ refl refl refl refl in
       let own = record_own s t k month (omega arith) records in
@@ -230,15 +230,15 @@ peak_cleared quarters old k days there written =
     sym (peak_readings quarters k days
     ∙ rw (written, stretch_cleared 2976 k (quarters_of days) (map reading_of old) None (rw length-map there), map-replicate kw_of (quarters_of days) None) (top_replicate (quarters_of days)))
 
-pub months_started : (s t : Store) (days : ℕ) (month : MonthRecord) → s.started < 48 → days ≤ 31 → 2976 * s.started + quarters_of days ≤ length s.memory.quarters.now → 744 * s.started + hours_of days ≤ length s.memory.hours.now → t.started ≡ s.started + 1 → t.records ≡ set s.records (ratchet + s.started) month → month.days ≡ days → month.state ≡ Open → readings_in t ≡ sets (readings_in s) (2976 * s.started + 0) (replicate (quarters_of days) None) → hours_in t ≡ sets (hours_in s) (744 * s.started + 0) (replicate (hours_of days) (record { price = None; scheduled = 0 })) → months_of t ≡ months_of s ++ (fresh days ∷ [])
-unfolding fresh
+pub months_started : (s t : Store) (days : ℕ) (month : MonthRecord) → s.started < 48 → days ≤ 31 → 2976 * s.started + quarters_of days ≤ length s.memory.quarters.now → 744 * s.started + hours_of days ≤ length s.memory.hours.now → t.started ≡ s.started + 1 → t.records ≡ set s.records (ratchet + s.started) month → month.days ≡ days → month.state ≡ Open → readings_in t ≡ sets (readings_in s) (2976 * s.started + 0) (replicate (quarters_of days) None) → hours_in t ≡ sets (hours_in s) (744 * s.started + 0) (replicate (hours_of days) (record { price = None; scheduled = 0 })) → months_of t ≡ months_of s ++ (new_month days ∷ [])
+unfolding new_month
 months_started s t days month few short quarters hours started records of_days opened written cleared =
     let k = s.started in
     let own = record_own s t k month few records in
     let none : HourOnFile = record { price = None; scheduled = 0 } in
     let many = length-replicate {A = Option Reading} (quarters_of days) None in
     let many' = length-replicate (hours_of days) none in
-    months_pushed s t (fresh days) started
+    months_pushed s t (new_month days) started
     (month_parts t k days Open (replicate (quarters_of days) None) (replicate (hours_of days) none)
     (ap (λ m. m.days) own ∙ of_days) (ap (λ m. m.state) own ∙ opened)
     (rw written (stretch_cleared 2976 k (quarters_of days) (readings_in s) None (rw length-map quarters)))

@@ -9,7 +9,7 @@ use Rattle.std.proofs.lemmas.List.Edits.{paste_all, sets-eq}
 use Rattle.std.proofs.lemmas.List.{append_assoc, append-nil, drop_all, drop-map, drop-set-add, drop-set-lt, take-set-le, ext_get_or, get_or-drop, get_or-take, get_or-set_other, get_or-set_same, length-map, length-replicate, length-set, map-append, same_lists, set-get_or, set_past, take-map}
 use Rattle.std.proofs.lemmas.Slice.{put_mid-paste}
 use Rattle.std.proofs.lemmas.Bool.{cases_eq, cases_lt}
-use Rattle.store.specs.Months.{Month, altered, no_month}
+use Rattle.store.specs.Months.{Month, months_with, no_month}
 use Rattle.store.specs.Records.{stretch}
 use Rattle.store.specs.Stores.{month_of, months_of}
 use Rattle.store.specs.declared.store.Store.{Store}
@@ -107,7 +107,7 @@ months_same s t started same =
     get_or_months t j no_month (omega arith) ∙ same j below ∙ sym (get_or_months s j no_month below))
 
 -- one month altered, and none past the last
-pub months_altered : (s t : Store) (k : ℕ) (alter : Month → Month) → t.started ≡ s.started → k < s.started → month_of t k ≡ alter (month_of s k) → ((j : ℕ) → j < s.started → j ≢ k → month_of t j ≡ month_of s j) → months_of t ≡ altered k alter (months_of s)
+pub months_altered : (s t : Store) (k : ℕ) (alter : Month → Month) → t.started ≡ s.started → k < s.started → month_of t k ≡ alter (month_of s k) → ((j : ℕ) → j < s.started → j ≢ k → month_of t j ≡ month_of s j) → months_of t ≡ months_with k alter (months_of s)
 months_altered s t k alter started there own others =
     let known = get_or_months s k no_month there in
     ext_get_or no_month _ _ (length_months t ∙ started ∙ sym (length_months s) ∙ sym (length-set (months_of s) k (alter (get_or (months_of s) k no_month)))) (λ j h.
@@ -124,7 +124,7 @@ months_altered s t k alter started there own others =
           cc
     ])
 
-pub altered_alike : (months : List Month) (k : ℕ) (alter : Month → Month) → alter (get_or months k no_month) ≡ get_or months k no_month → altered k alter months ≡ months
+pub altered_alike : (months : List Month) (k : ℕ) (alter : Month → Month) → alter (get_or months k no_month) ≡ get_or months k no_month → months_with k alter months ≡ months
 altered_alike months k alter alike = ap (set months k) alike ∙ set-get_or months k no_month
 
 -- one month more

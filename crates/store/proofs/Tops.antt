@@ -3,7 +3,7 @@ use Rattle.std.proofs.Common.{◌≡◌, ℕ, ◌≤◌, leb, List, [], ◌∷�
 use mathlib.Core.List.{map-map}
 use Rattle.std.proofs.lemmas.List.{length-map}
 use Rattle.std.proofs.lemmas.Bool.{cond_both, leb-true}
-use Rattle.store.specs.Months.{Month, apparent, kva_of, kw_of, peak, top}
+use Rattle.store.specs.Months.{Month, peak_kva, kva_of, kw_of, peak, top}
 use Rattle.store.specs.Records.{reading_of}
 use Rattle.store.specs.declared.quarter.Quarter.{Quarter}
 use Rattle.store.specs.declared.reading.Reading.{Reading}
@@ -26,14 +26,14 @@ quarter_ordered quarter =
 
 -- the figures of a month, by its quarters
 module _ (month : Month) (quarters : List Quarter) (read : map reading_of quarters ≡ month.readings) where
-  pub apparent_read : top (map (λ quarter. kva_of (reading_of quarter)) quarters) ≡ apparent month
-  unfolding apparent
+  pub apparent_read : top (map (λ quarter. kva_of (reading_of quarter)) quarters) ≡ peak_kva month
+  unfolding peak_kva
   apparent_read = ap top (sym (map-map kva_of reading_of quarters) ∙ ap (map kva_of) read)
 
   peak_read : top (map (λ quarter. kw_of (reading_of quarter)) quarters) ≡ peak month
   unfolding peak
   peak_read = ap top (sym (map-map kw_of reading_of quarters) ∙ ap (map kw_of) read)
 
-  pub peak_under_apparent : peak month ≤ apparent month
+  pub peak_under_apparent : peak month ≤ peak_kva month
   peak_under_apparent =
       omega (arith, peak_read, apparent_read, top_below (λ quarter. kw_of (reading_of quarter)) (λ quarter. kva_of (reading_of quarter)) quarter_ordered quarters)

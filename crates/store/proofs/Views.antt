@@ -10,9 +10,9 @@ use Rattle.std.specs.List.{range_with_len, prefix_len}
 use Rattle.std.proofs.lemmas.List.FromFn.{fill_by_all}
 use Rattle.std.proofs.lemmas.Bool.{cases_lt, ltb-false, ltb-true}
 use Rattle.std.proofs.lemmas.List.{drop-map, length-drop, length-take, get_or-drop, get_or-take, get_or_default, get_or-map, get_or_past, length-map, take-map}
-use Rattle.store.specs.Months.{Month, earlier_high, first_short, fresh, hours_of, kw_of, no_month, peak, quarters_of, ratchet, reached, top}
+use Rattle.store.specs.Months.{Month, ratchet_peak, first_short, new_month, hours_of, kw_of, no_month, peak, quarters_of, ratchet, has_reached, top}
 use Rattle.store.specs.Records.{first_record, hour_of, peak_in, reading_of, record_in, stretch}
-use Rattle.store.specs.Stores.{before_of, month_of, months_of}
+use Rattle.store.specs.Stores.{earlier_peaks_of, month_of, months_of}
 use Rattle.store.specs.declared.month.MonthRecord.{MonthRecord}
 use Rattle.store.specs.declared.state.State.{State}
 use Rattle.store.specs.declared.store.Store.{Store}
@@ -34,7 +34,7 @@ module _ (store : Store) where
   days_recorded k here = ap (λ m. m.days) (get_or_months store k no_month here)
 
   pub no_days : (k : ℕ) → store.started ≤ k → (get_or (months_of store) k no_month).days ≡ 0
-  unfolding no_month fresh
+  unfolding no_month new_month
   no_days k past = ap (λ m. m.days) (month_past k past)
 
   -- a part of memory with so many items a day: past the last month it is none
@@ -44,7 +44,7 @@ module _ (store : Store) where
 
   -- the stretches of a month are its readings and its hours; past the last month there is none
   pub readings_read : (k : ℕ) → map reading_of (stretch 2976 k (quarters_of (get_or (months_of store) k no_month).days) store.memory.quarters.now) ≡ (get_or (months_of store) k no_month).readings
-  unfolding month_of no_month fresh stretch
+  unfolding month_of no_month new_month stretch
   readings_read k =
       elim (cases_lt k store.started) [
         | inl here ↦ rw (get_or_months store k no_month here) refl
@@ -52,7 +52,7 @@ module _ (store : Store) where
       ]
 
   pub hours_read : (k : ℕ) → map hour_of (stretch 744 k (hours_of (get_or (months_of store) k no_month).days) store.memory.hours.now) ≡ (get_or (months_of store) k no_month).hours
-  unfolding month_of no_month fresh stretch
+  unfolding month_of no_month new_month stretch
   hours_read k =
       elim (cases_lt k store.started) [
         | inl here ↦ rw (get_or_months store k no_month here) refl
@@ -60,11 +60,11 @@ module _ (store : Store) where
       ]
 
   -- the first month short of a state, by the records
-  pub first_short_counted : (state : State) (k : ℕ) → prefix_len (λ month. reached state month.state) (take k (take store.started (drop ratchet store.records))) ≡ first_short state (months_of store) k
+  pub first_short_counted : (state : State) (k : ℕ) → prefix_len (λ month. has_reached state month.state) (take k (take store.started (drop ratchet store.records))) ≡ first_short state (months_of store) k
   unfolding months_of month_of
   first_short_counted state k =
-      let of_record : MonthRecord → Bool = λ month. reached state month.state in
-      let of_month : Month → Bool = λ month. reached state month.state in
+      let of_record : MonthRecord → Bool = λ month. has_reached state month.state in
+      let of_month : Month → Bool = λ month. has_reached state month.state in
       let n = min store.started k in
       let records = part_counted store.records ratchet store.started first_record (omega arith) in
       rw (records, take_counted (record_in store.records) store.started k n refl, take_counted (month_of store) store.started k n refl)
@@ -82,15 +82,15 @@ module _ (store : Store) where
       (λ k here. get_or-map peak (months_of store) k no_month 0 (rw (length_months store) here) ∙ (ap peak (get_or_months store k no_month here) ∙ peak_kept k here))
       ∙ sym (ap (map (λ month. month.peak)) (part_counted store.records ratchet store.started first_record (omega arith)) ∙ map-map _ _ _)
 
-  pub peaks_recorded : before_of store ++ map peak (months_of store) ≡ map (λ month. month.peak) (take (ratchet + store.started) store.records)
-  unfolding before_of
+  pub peaks_recorded : earlier_peaks_of store ++ map peak (months_of store) ≡ map (λ month. month.peak) (take (ratchet + store.started) store.records)
+  unfolding earlier_peaks_of
   peaks_recorded =
       rw (peaks_kept, sym (take_two ratchet store.started store.records))
       (sym (map-append (λ month. month.peak) (take ratchet store.records) (take store.started (drop ratchet store.records))))
 
   -- the highest peak before a month, by the 24 records before its own
-  pub earlier_recorded : (k : ℕ) → k < store.started → top (map (λ month. month.peak) (take (k + ratchet - k) (drop k store.records))) ≡ earlier_high (before_of store) (months_of store) k
-  unfolding earlier_high
+  pub earlier_recorded : (k : ℕ) → k < store.started → top (map (λ month. month.peak) (take (k + ratchet - k) (drop k store.records))) ≡ ratchet_peak (earlier_peaks_of store) (months_of store) k
+  unfolding ratchet_peak
   earlier_recorded k here =
       let fits : k + ratchet ≤ ratchet + store.started = omega arith in
       rw (peaks_recorded, drop-map, take-map, window k ratchet (ratchet + store.started) store.records fits, add-sub_cancel_left k ratchet)
@@ -112,7 +112,7 @@ module _ (store : Store) where
   record_found k None past = omega (arith, length_months store, past)
 
   pub days_found : (k days : ℕ) (found : Option MonthRecord) → MatchOption found (store.started ≤ k) (λ month. (k < store.started) × (month ≡ record_in store.records k)) → MatchOption found (days ≡ 0) (λ month. days ≡ month.days) → (days ≡ (get_or (months_of store) k no_month).days) × (days ≤ 31) × (0 < days → (k < store.started) × (days ≡ (record_in store.records k).days))
-  unfolding month_of no_month fresh
+  unfolding month_of no_month new_month
   days_found k days (Some month) kept are =
       let same : days ≡ (record_in store.records k).days = are ∙ ap (λ m. m.days) kept.1 in
       (same ∙ sym (ap (λ m. m.days) (get_or_months store k no_month kept.0)), omega (arith, same, (record_in store.records k).length.1), λ some. (kept.0, same))

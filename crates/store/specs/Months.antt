@@ -31,8 +31,8 @@ abbrev pub hours_of : ℕ → ℕ
 hours_of days = 24 * days
 
 -- a month that was just started: nothing is posted, nothing is scheduled
-unfoldable pub fresh : ℕ → Month
-fresh days = record {
+unfoldable pub new_month : ℕ → Month
+new_month days = record {
   days = days;
   state = Open;
   readings = replicate (quarters_of days) None;
@@ -41,7 +41,7 @@ fresh days = record {
 
 -- what is read past the last month
 unfoldable pub no_month : Month
-no_month = fresh 0
+no_month = new_month 0
 
 -- the limits of what is posted
 abbrev pub reading_within : Reading → Bool
@@ -68,15 +68,15 @@ with_readings from readings month = record {
   hours = month.hours;
 }
 
-abbrev no_hour : HourOnFile
-no_hour = record { price = None; scheduled = 0 }
+abbrev blank_hour : HourOnFile
+blank_hour = record { price = None; scheduled = 0 }
 
 abbrev pub with_price : ℕ → ℕ → Month → Month
 with_price hour price month = record {
   days = month.days;
   state = month.state;
   readings = month.readings;
-  hours = slice_set month.hours hour (record { price = Some price; scheduled = (get_or month.hours hour no_hour).scheduled });
+  hours = slice_set month.hours hour (record { price = Some price; scheduled = (get_or month.hours hour blank_hour).scheduled });
 }
 
 abbrev pub with_scheduled : ℕ → ℕ → Month → Month
@@ -84,7 +84,7 @@ with_scheduled hour kw month = record {
   days = month.days;
   state = month.state;
   readings = month.readings;
-  hours = slice_set month.hours hour (record { price = (get_or month.hours hour no_hour).price; scheduled = kw });
+  hours = slice_set month.hours hour (record { price = (get_or month.hours hour blank_hour).price; scheduled = kw });
 }
 
 abbrev pub with_state : State → Month → Month
@@ -96,8 +96,8 @@ with_state state month = record {
 }
 
 -- one month of several altered, by its place from 0
-abbrev pub altered : ℕ → (Month → Month) → List Month → List Month
-altered k alter months = slice_set months k (alter (slice_index_or months k no_month))
+abbrev pub months_with : ℕ → (Month → Month) → List Month → List Month
+months_with k alter months = slice_set months k (alter (slice_index_or months k no_month))
 
 -- the first reading that is missing, else the first price
 unfoldable pub first_missing : Month → Option Missing
@@ -105,12 +105,12 @@ first_missing month =
     option_or (option_map Unread (position is_none month.readings)) (option_map Unpriced (position (λ hour. is_none hour.price) month.hours))
 
 -- a missing reading by its quarter, a missing price by 3,000 and its hour
-abbrev pub place_of : Missing → ℕ
-place_of (Unread quarter) = quarter
-place_of (Unpriced hour) = 3000 + hour
+abbrev pub missing_place : Missing → ℕ
+missing_place (Unread quarter) = quarter
+missing_place (Unpriced hour) = 3000 + hour
 
 abbrev pub missing : Month → Option ℕ
-missing month = option_map place_of (first_missing month)
+missing month = option_map missing_place (first_missing month)
 
 -- what a place counts where no reading or price is on file: nothing
 abbrev pub kw_of : Option Reading → ℕ
@@ -134,14 +134,14 @@ top (x ∷ xs) = max x (top xs)
 unfoldable pub peak : Month → ℕ
 peak month = top (map kw_of month.readings)
 
-unfoldable pub apparent : Month → ℕ
-apparent month = top (map kva_of month.readings)
+unfoldable pub peak_kva : Month → ℕ
+peak_kva month = top (map kva_of month.readings)
 
 -- hour h has the energy of quarters 4h to 4h + 3
 abbrev pub hour_row : Month → ℕ → HourRow
 hour_row month h =
     let kw : ℕ → ℕ = λ quarter. kw_of (slice_index_or month.readings quarter None) in
-    let hour = get_or month.hours h no_hour in
+    let hour = get_or month.hours h blank_hour in
     record {
       energy = kw (4 * h) + kw (4 * h + 1) + kw (4 * h + 2) + kw (4 * h + 3);
       price = price_of hour.price;
@@ -156,27 +156,27 @@ abbrev pub ratchet : ℕ
 ratchet = 24
 
 -- the carried peaks as those of the 24 months before month 1, the oldest first; 0 where none was carried
-unfoldable pub aged : List ℕ → List ℕ
-aged carried = map (λ i. slice_index carried (ratchet - 1 - i)) (range_with_len 0 ratchet)
+unfoldable pub earlier_peaks : List ℕ → List ℕ
+earlier_peaks carried = map (λ i. slice_index carried (ratchet - 1 - i)) (range_with_len 0 ratchet)
 
 -- the highest peak of the 24 months before the month at place k, those before month 1 included
-unfoldable pub earlier_high : List ℕ → List Month → ℕ → ℕ
-earlier_high before months k = top (take ratchet (drop k (before ++ map peak months)))
+unfoldable pub ratchet_peak : List ℕ → List Month → ℕ → ℕ
+ratchet_peak before months k = top (take ratchet (drop k (before ++ map peak months)))
 
 -- at most 24 carried peaks, each a demand
-abbrev pub carriable : List ℕ → Bool
-carriable carried = nat_le (length carried) ratchet && nat_le (top carried) most_demand
+abbrev pub can_carry : List ℕ → Bool
+can_carry carried = nat_le (length carried) ratchet && nat_le (top carried) most_demand
 
 -- the states in their order
-abbrev pub reached : State → State → Bool
-reached Open state = true
-reached Billed Open = false
-reached Billed Billed = true
-reached Billed Final = true
-reached Final Open = false
-reached Final Billed = false
-reached Final Final = true
+abbrev pub has_reached : State → State → Bool
+has_reached Open state = true
+has_reached Billed Open = false
+has_reached Billed Billed = true
+has_reached Billed Final = true
+has_reached Final Open = false
+has_reached Final Billed = false
+has_reached Final Final = true
 
 -- the first of the months before place k that has not reached a state; k where all have
 abbrev pub first_short : State → List Month → ℕ → ℕ
-first_short state months k = prefix_len (λ month. reached state month.state) (take k months)
+first_short state months k = prefix_len (λ month. has_reached state month.state) (take k months)

@@ -1,7 +1,7 @@
 -- What a store holds: its months, the peaks before them, and its room.
 use Rattle.std.specs.Prelude.{◌≡◌, Bool, true, false, Result, MatchResult, ℕ, ◌/◌, min, List, map, length, take}
 use Rattle.std.specs.List.{range_with_len}
-use Rattle.store.specs.Months.{Month, altered, quarters_of, hours_of, ratchet}
+use Rattle.store.specs.Months.{Month, months_with, quarters_of, hours_of, ratchet}
 use Rattle.store.specs.Records.{hour_of, reading_of, record_in, stretch}
 use Rattle.store.specs.declared.errors.OutsideLimit.{OutsideLimit}
 use Rattle.store.specs.declared.store.Store.{Store}
@@ -21,8 +21,8 @@ unfoldable pub months_of : Store → List Month
 months_of store = map (month_of store) (range_with_len 0 store.started)
 
 -- the peaks of the 24 months before month 1, the oldest first
-unfoldable pub before_of : Store → List ℕ
-before_of store = map (λ month. month.peak) (take ratchet store.records)
+unfoldable pub earlier_peaks_of : Store → List ℕ
+earlier_peaks_of store = map (λ month. month.peak) (take ratchet store.records)
 
 -- how many months the memory holds
 unfoldable pub capacity_of : Store → ℕ
@@ -30,8 +30,8 @@ capacity_of store = min 48 (min (length store.memory.quarters.now / 2976) (lengt
 
 -- the month at place k is altered, and nothing else: not the peaks before month 1, nor the room
 pub record Alters (k : ℕ) (alter : Month → Month) (old new : Store) : Type 0 where
-  pub months : months_of new ≡ altered k alter (months_of old)
-  pub before : before_of new ≡ before_of old
+  pub months : months_of new ≡ months_with k alter (months_of old)
+  pub before : earlier_peaks_of new ≡ earlier_peaks_of old
   pub capacity : capacity_of new ≡ capacity_of old
 
 -- a post of one value: where it is outside its limit, it is refused and nothing changes

@@ -4,6 +4,6 @@
 #[derive(Clone, Copy)]
 pub struct Demand {
     pub peak: u32,
-    pub apparent: u32,
-    pub earlier: u32,
+    pub peak_kva: u32,
+    pub ratchet_peak: u32,
 }

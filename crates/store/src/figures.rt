@@ -6,7 +6,7 @@ ghost use Rattle.store.specs.Demands.{DemandOf};
 ghost use Rattle.store.specs.Months.{first_missing, first_short, hour_rows, no_month, quarters_of, hours_of};
 ghost use Rattle.store.specs.Records.{hour_of, reading_of, stretch};
 ghost use Rattle.store.specs.Rows.{rows_in};
-ghost use Rattle.store.specs.Stores.{before_of, months_of};
+ghost use Rattle.store.specs.Stores.{earlier_peaks_of, months_of};
 
 use crate::demand::Demand;
 use crate::missing::Missing;
@@ -99,13 +99,13 @@ impl Store<'_> {
 
     // The demand figures of the month at place `k`; none where it is not on file.
     pub fn demand(&self, k: usize) -> Option<Demand>
-        ensures { MatchOption result (length (months_of self.now) ≤ k) (DemandOf (before_of self.now) (months_of self.now) k) }
+        ensures { MatchOption result (length (months_of self.now) ≤ k) (DemandOf (earlier_peaks_of self.now) (months_of self.now) k) }
     {
         let month = self.month(k)?;
         Some(Demand {
             peak: month.peak,
-            apparent: highest_of::<Quarter, Kva>(self.quarters(k)),
-            earlier: highest_of::<MonthRecord, Peak>(&self.records[k..k + RATCHET]),
+            peak_kva: highest_of::<Quarter, Kva>(self.quarters(k)),
+            ratchet_peak: highest_of::<MonthRecord, Peak>(&self.records[k..k + RATCHET]),
         })
     }
 

@@ -12,11 +12,11 @@ pub enum Missing {
 }
 
 impl Missing {
-    ghost use Rattle.store.specs.Months.{place_of};
+    ghost use Rattle.store.specs.Months.{missing_place};
 
     // The place by which a refusal names it.
     pub fn place(self) -> u64
-        ensures { result ≡ place_of self }
+        ensures { result ≡ missing_place self }
     {
         match self {
             Missing::Reading { quarter } => quarter as u64,

@@ -1,6 +1,6 @@
 // The hours of a month in the rows that a schedule prices by.
 ghost use Rattle.std.specs.Prelude.{◌≡◌, ℕ, ◌≤◌, length, slice_index_or};
-ghost use Rattle.tariff.specs.Limits.{HourWithin, most_hours, no_hour};
+ghost use Rattle.tariff.specs.Limits.{HourWithin, most_hours, no_row};
 
 use crate::store::MONTH_HOURS;
 use tariff::HourRow;
@@ -13,5 +13,5 @@ pub struct MonthHours {
     pub(crate) count: usize,
     ghost room: { length rows ≡ most_hours },
     ghost few: { count ≤ most_hours },
-    ghost within: { (k : ℕ) → HourWithin (slice_index_or rows k no_hour) },
+    ghost within: { (k : ℕ) → HourWithin (slice_index_or rows k no_row) },
 }

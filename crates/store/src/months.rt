@@ -1,8 +1,8 @@
 // The months of a store: how many there are, and their records.
 ghost use Rattle.std.specs.Prelude.{◌≡◌, ◌+◌, ◌*◌, ◌/◌, ◌<◌, ◌≤◌, min, [], drop, length, take, MatchOption, slice_index_or};
-ghost use Rattle.store.specs.Months.{aged, no_month, peak, ratchet, with_state};
+ghost use Rattle.store.specs.Months.{earlier_peaks, no_month, peak, ratchet, with_state};
 ghost use Rattle.store.specs.Records.{record_in};
-ghost use Rattle.store.specs.Stores.{Alters, before_of, capacity_of, months_of};
+ghost use Rattle.store.specs.Stores.{Alters, earlier_peaks_of, capacity_of, months_of};
 
 use crate::memory::Memory;
 use crate::month::MonthRecord;
@@ -14,7 +14,7 @@ impl<'a> Store<'a> {
     // A store without months in the memory that it is lent.
     pub fn new(quarters: &'a mut [Quarter], hours: &'a mut [Hour]) -> Store<'a>
         ensures months { months_of result ≡ [] }
-        ensures before { before_of result ≡ aged [] }
+        ensures before { earlier_peaks_of result ≡ earlier_peaks [] }
         ensures capacity { capacity_of result ≡ min 48 (min (length quarters.old / 2976) (length hours.old / 744)) }
         ensures memory { (result.memory.quarters.now ≡ quarters.old) × (result.memory.hours.now ≡ hours.old) }
     {

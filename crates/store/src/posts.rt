@@ -1,8 +1,8 @@
 // What is posted to a store.
 ghost use Rattle.std.specs.Prelude.{◌≡◌, ◌*◌, true, false, [], ◌∷◌, ◌++◌, length, is_ok, Some, None, MatchResult, OnErr, OnOk};
-ghost use Rattle.store.specs.Months.{aged, carriable, day_fault, fresh, price_within, reading_within, scheduled_within, with_price, with_readings, with_scheduled};
+ghost use Rattle.store.specs.Months.{earlier_peaks, can_carry, day_fault, new_month, price_within, reading_within, scheduled_within, with_price, with_readings, with_scheduled};
 ghost use Rattle.store.specs.Starts.{start_answer};
-ghost use Rattle.store.specs.Stores.{Alters, Posts, before_of, capacity_of, months_of};
+ghost use Rattle.store.specs.Stores.{Alters, Posts, earlier_peaks_of, capacity_of, months_of};
 
 use crate::carried;
 use crate::day::DayReadings;
@@ -20,9 +20,9 @@ impl Store<'_> {
     // Starts the next month; its number, from 1.
     pub fn start(&mut self, days: u32) -> Result<u32, Refusal>
         ensures result { result ≡ start_answer (capacity_of self.old) (length (months_of self.old)) days }
-        ensures months { is_ok result ≡ true → months_of self.new ≡ months_of self.old ++ (fresh days ∷ []) }
+        ensures months { is_ok result ≡ true → months_of self.new ≡ months_of self.old ++ (new_month days ∷ []) }
         ensures refused { is_ok result ≡ false → self.new ≡ self.old }
-        ensures before { before_of self.new ≡ before_of self.old }
+        ensures before { earlier_peaks_of self.new ≡ earlier_peaks_of self.old }
         ensures capacity { capacity_of self.new ≡ capacity_of self.old }
     {
         if self.started >= self.capacity() {
@@ -45,8 +45,8 @@ impl Store<'_> {
     // The peaks of the months before month 1, the latest first; all are refused where there are more
     // than the ratchet looks back or one is outside its limit.
     pub fn carry(&mut self, carried: &[u32]) -> Result<(), CannotCarry>
-        ensures result { is_ok result ≡ carriable carried.now }
-        ensures before { OnOk result (before_of self.new ≡ aged carried.now) }
+        ensures result { is_ok result ≡ can_carry carried.now }
+        ensures before { OnOk result (earlier_peaks_of self.new ≡ earlier_peaks carried.now) }
         ensures refused { OnErr result (self.new ≡ self.old) }
         ensures months { months_of self.new ≡ months_of self.old }
         ensures capacity { capacity_of self.new ≡ capacity_of self.old }

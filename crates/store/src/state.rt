@@ -1,6 +1,6 @@
 // How far a month has come.
 ghost use Rattle.std.specs.Prelude.{◌≡◌};
-ghost use Rattle.store.specs.Months.{reached};
+ghost use Rattle.store.specs.Months.{has_reached};
 
 // A month is open, then billed, then final, and never goes back.
 #[derive(Clone, Copy, PartialEq, Eq, PartialOrd, Ord, Debug)]
@@ -12,7 +12,7 @@ pub enum State {
 
 impl State {
     pub fn has_reached(self, state: State) -> bool
-        ensures { result ≡ reached state self }
+        ensures { result ≡ has_reached state self }
     {
         self >= state
     }

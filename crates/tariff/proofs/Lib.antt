@@ -1,5 +1,5 @@
 pub mod Cents
-pub mod Charges
+pub mod ChargeBounds
 pub mod Figures
 pub mod Nearest
 pub mod Products

@@ -17,7 +17,7 @@ abbrev pub ContractWithin : PlainFacts → Type 0
 ContractWithin f = (1 ≤ f.contract) × (f.contract ≤ f.substation) × (f.substation ≤ most_demand)
 
 abbrev pub DemandWithin : PlainFacts → Type 0
-DemandWithin f = (f.peak ≤ f.apparent) × (f.apparent ≤ most_demand) × (f.earlier ≤ most_demand)
+DemandWithin f = (f.peak ≤ f.peak_kva) × (f.peak_kva ≤ most_demand) × (f.ratchet_peak ≤ most_demand)
 
 abbrev pub FactsWithin : PlainFacts → Type 0
 FactsWithin f = ContractWithin f × DemandWithin f
@@ -27,11 +27,11 @@ abbrev pub HourWithin : HourRow → Type 0
 HourWithin hour = (hour.energy ≤ 4000000) × (hour.price ≤ 99999) × (hour.scheduled ≤ most_demand)
 
 -- what is read past the last row
-abbrev pub no_hour : HourRow
-no_hour = record { energy = 0; price = 0; scheduled = 0 }
+abbrev pub no_row : HourRow
+no_row = record { energy = 0; price = 0; scheduled = 0 }
 
 abbrev pub RowsWithin : List HourRow → Type 0
-RowsWithin rows = (k : ℕ) → HourWithin (slice_index_or rows k no_hour)
+RowsWithin rows = (k : ℕ) → HourWithin (slice_index_or rows k no_row)
 
 -- the hours of 31 days
 abbrev pub most_hours : ℕ

@@ -23,6 +23,6 @@ abbrev pub FiguresWithin : List Figure → Type 0
 FiguresWithin figures = (k : ℕ) → FigureWithin (slice_index_or figures k no_figure)
 
 -- the refusal names the first figure outside its limits, counted from 1
-abbrev pub RefusedFigure : List Figure → Refusal → Type 0
-RefusedFigure figures refusal =
+abbrev pub IsFirstOutside : List Figure → Refusal → Type 0
+IsFirstOutside figures refusal =
     (within : ℕ) × Front FigureWithin figures within × (within < length figures) × (refusal ≡ FigureOutside (within + 1))

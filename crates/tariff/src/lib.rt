@@ -13,7 +13,7 @@ mod refusal;
 mod rounded;
 mod schedule;
 mod sheet;
-mod statement;
+mod charges;
 mod totals;
 
 pub use amounts::{Amounts, Lines};
@@ -26,5 +26,5 @@ pub use rate::Rate;
 pub use refusal::{Fault, Numbers, Refusal};
 pub use schedule::{Schedule, price};
 pub use sheet::{Draft, Figure, Sealed, Unsealed};
-pub use statement::Statement;
+pub use charges::Charges;
 pub use totals::{Energy, EnergyValue, Measure};

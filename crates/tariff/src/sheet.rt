@@ -1,6 +1,6 @@
 // What sealing a sheet checks.
 ghost use Rattle.std.specs.Prelude.{◌≡◌, List, MatchResult};
-ghost use Rattle.tariff.specs.Sheets.{FigureWithin, FiguresWithin, RefusedFigure};
+ghost use Rattle.tariff.specs.Sheets.{FigureWithin, FiguresWithin, IsFirstOutside};
 ghost use Rattle.tariff.specs.declared.sheet.Figure.{Figure as Limited};
 
 use crate::limits::{Bounded, first_outside};
@@ -32,7 +32,7 @@ impl Figure {
 
     // Refused where a figure is outside its limits, with the place of the first such, from 1.
     pub fn check(figures: &[Figure]) -> Result<(), Refusal>
-        ensures { MatchResult result (λ _. FiguresWithin figures.now) (RefusedFigure figures.now) }
+        ensures { MatchResult result (λ _. FiguresWithin figures.now) (IsFirstOutside figures.now) }
     {
         match first_outside(figures) {
             Some(within) => Err(Refusal::FigureOutside {
@@ -66,7 +66,7 @@ pub trait Draft: Copy {
     // Refused where a figure is outside its limits, with the place of the first such, from 1. Each draft
     // checks its own array: the length would else be a parameter of every type that names a sheet.
     fn check(&self) -> Result<(), Refusal>
-        ensures { MatchResult result (λ _. FiguresWithin (listed self.now)) (RefusedFigure (listed self.now)) };
+        ensures { MatchResult result (λ _. FiguresWithin (listed self.now)) (IsFirstOutside (listed self.now)) };
 
     // What comes back where a draft is not sealed: the draft as it was, with the reason. A method of its
     // own, so that an impl which says it otherwise is held to this.
@@ -81,7 +81,7 @@ pub trait Draft: Copy {
 
     // Refused where a figure is outside its limits; the draft comes back as it was.
     final fn seal(self) -> Result<Sealed<Self>, Unsealed<Self>>
-        ensures { MatchResult result (λ sheet. sheet.figures ≡ self) (λ unsealed. (unsealed.draft ≡ self) × RefusedFigure (listed self) unsealed.refusal) }
+        ensures { MatchResult result (λ sheet. sheet.figures ≡ self) (λ unsealed. (unsealed.draft ≡ self) × IsFirstOutside (listed self) unsealed.refusal) }
     {
         match self.check() {
             Ok(()) => Ok(Sealed { figures: self }),

@@ -16,8 +16,8 @@ const PLANT: PlainFacts = PlainFacts {
     contract: 20_000,
     substation: 30_000,
     peak: 25_000,
-    apparent: 30_000,
-    earlier: 30_000,
+    peak_kva: 30_000,
+    ratchet_peak: 30_000,
 };
 
 // Something bought, something sold and something scheduled.

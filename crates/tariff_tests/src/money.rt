@@ -25,13 +25,13 @@ fn halves_go_away_from_zero(rt: HostRuntime) {
     assert_eq!(rt; cents(-9_223_372_036_854_775_808, 1), None);
 }
 
-fn facts(contract: u32, substation: u32, peak: u32, apparent: u32, earlier: u32) -> bool {
+fn facts(contract: u32, substation: u32, peak: u32, peak_kva: u32, ratchet_peak: u32) -> bool {
     Facts::new(PlainFacts {
         contract,
         substation,
         peak,
-        apparent,
-        earlier,
+        peak_kva,
+        ratchet_peak,
     })
     .is_ok()
 }
@@ -50,8 +50,8 @@ fn facts_have_limits(rt: HostRuntime) -> Result<(), Fail> {
         contract: 0,
         substation: 0,
         peak: 0,
-        apparent: 0,
-        earlier: 0,
+        peak_kva: 0,
+        ratchet_peak: 0,
     };
     let refusal = Facts::new(none).err().ok_or("no contract was taken")?;
     assert_eq!(rt; refusal.numbers().number, 10);

@@ -9,13 +9,13 @@ fn cents(draft: DtsDraft, plain: PlainFacts, rows: &[HourRow]) -> Result<[i64; L
     support::cents(&sealed(draft)?, plain, rows)
 }
 
-fn month(peak: u32, apparent: u32) -> PlainFacts {
+fn month(peak: u32, peak_kva: u32) -> PlainFacts {
     PlainFacts {
         contract: 20_000,
         substation: 30_000,
         peak,
-        apparent,
-        earlier: 30_000,
+        peak_kva,
+        ratchet_peak: 30_000,
     }
 }
 
@@ -56,20 +56,20 @@ fn the_highest_of_three_is_billed(rt: HostRuntime) -> Result<(), Fail> {
         contract: 1,
         substation: 1,
         peak: 10,
-        apparent: 10,
-        earlier: 11,
+        peak_kva: 10,
+        ratchet_peak: 11,
     };
-    let earlier = PlainFacts {
-        earlier: 12,
+    let ratchet_peak = PlainFacts {
+        ratchet_peak: 12,
         ..peak
     };
     let contract = PlainFacts {
         contract: 13,
         substation: 13,
-        ..earlier
+        ..ratchet_peak
     };
     assert_eq!(rt; Facts::new(peak)?.billing_capacity(), 100);
-    assert_eq!(rt; Facts::new(earlier)?.billing_capacity(), 108);
+    assert_eq!(rt; Facts::new(ratchet_peak)?.billing_capacity(), 108);
     assert_eq!(rt; Facts::new(contract)?.billing_capacity(), 117);
     Ok(())
 }

@@ -36,8 +36,8 @@ fn cents<S: Schedule>(
         contract: 20_000,
         substation,
         peak: 30_000,
-        apparent: 30_000,
-        earlier: 0,
+        peak_kva: 30_000,
+        ratchet_peak: 0,
     };
     support::cents(schedule, plain, rows)
 }

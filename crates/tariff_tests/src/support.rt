@@ -11,8 +11,8 @@ const IDLE: PlainFacts = PlainFacts {
     contract: 1,
     substation: 1,
     peak: 0,
-    apparent: 0,
-    earlier: 0,
+    peak_kva: 0,
+    ratchet_peak: 0,
 };
 
 // An hour with each value at its limit.

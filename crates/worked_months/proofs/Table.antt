@@ -5,9 +5,9 @@ use Rattle.std.specs.List.{AllByRecursion}
 use Rattle.std.proofs.lemmas.Int.{ints}
 use Rattle.std.proofs.lemmas.Bool.{and_parts, eqb-true, both_ways}
 use Rattle.tariff.specs.Capacity.{billing_capacity}
-use Rattle.tariff.specs.Lines.{place_of}
+use Rattle.tariff.specs.Lines.{index_of}
 use Rattle.tariff.specs.Pricing.{Outcome}
-use Rattle.tariff.specs.Rounding.{nearest, rounded}
+use Rattle.tariff.specs.Rounding.{nearest, nearest_cents}
 use Rattle.tariff.specs.Totals.{total}
 use Rattle.tariff.specs.declared.line.Line.{Line}
 use Rattle.rates.specs.Dts.{excess_kva}
@@ -16,7 +16,7 @@ use Rattle.riders.specs.Percent.{sum_of}
 use Rattle.worked_months.specs.Months.{Worked, capacity, line, Says, Holds, worked_months}
 
 says : Line → ℤ → Outcome → Bool
-says l cents (Ok amounts) = let found = get_or amounts (place_of l) (pos 0) in le_z found cents && le_z cents found
+says l cents (Ok amounts) = let found = get_or amounts (index_of l) (pos 0) in le_z found cents && le_z cents found
 says l cents (Err fault) = false
 
 test : Worked → Bool
@@ -26,7 +26,7 @@ test (line meaning month hours l cents) = says l cents (meaning month hours)
 says_tells : (l : Line) (cents : ℤ) (outcome : Outcome) → says l cents outcome ≡ true → Says l cents outcome
 unfolding says
 says_tells l cents (Ok amounts) e =
-    let found = get_or amounts (place_of l) (pos 0) in
+    let found = get_or amounts (index_of l) (pos 0) in
     let both = and_parts (le_z found cents) (le_z cents found) e in
     omega (arith, ints, both.0, both.1)
 says_tells l cents (Err fault) e = both_ways false refl e
@@ -46,5 +46,5 @@ every_tells [] e = tt
 every_tells (w ∷ rows) e = let both = and_parts (test w) (every rows) e in (test_tells w both.0, every_tells rows both.1)
 
 pub all_hold : AllByRecursion Holds worked_months
-unfolding every test says billing_capacity total rounded nearest excess_kva sum_of credits
+unfolding every test says billing_capacity total nearest_cents nearest excess_kva sum_of credits
 all_hold = every_tells worked_months refl

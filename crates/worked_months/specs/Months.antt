@@ -2,7 +2,7 @@
 use Rattle.std.specs.Prelude.{◌≡◌, ℕ, ◌-◌, List, [], ◌∷◌, ◌++◌, replicate, ℤ, pos, neg_ℤ, Ok, Err, slice_index_or}
 use Rattle.tariff.specs.Capacity.{billing_capacity}
 use Rattle.tariff.specs.Limits.{line_count}
-use Rattle.tariff.specs.Lines.{place_of}
+use Rattle.tariff.specs.Lines.{index_of}
 use Rattle.tariff.specs.Pricing.{Meaning, Outcome}
 use Rattle.tariff.specs.declared.facts.PlainFacts.{PlainFacts}
 use Rattle.tariff.specs.declared.hours.HourRow.{HourRow}
@@ -23,7 +23,7 @@ pub data Worked : Type 0 where
 
 -- an outcome has these cents on that line
 abbrev pub Says : Line → ℤ → Outcome → Type 0
-Says l cents (Ok amounts) = slice_index_or amounts (place_of l) (pos 0) ≡ cents
+Says l cents (Ok amounts) = slice_index_or amounts (index_of l) (pos 0) ≡ cents
 Says l cents (Err fault) = ⊥
 
 abbrev pub Holds : Worked → Type 0
@@ -31,8 +31,8 @@ Holds (capacity month tenths) = billing_capacity month ≡ tenths
 Holds (line meaning month hours l cents) = Says l cents (meaning month hours)
 
 abbrev facts : ℕ → ℕ → ℕ → ℕ → ℕ → PlainFacts
-facts contract substation peak apparent earlier =
-    record { contract = contract; substation = substation; peak = peak; apparent = apparent; earlier = earlier }
+facts contract substation peak peak_kva ratchet_peak =
+    record { contract = contract; substation = substation; peak = peak; peak_kva = peak_kva; ratchet_peak = ratchet_peak }
 
 abbrev hour : ℕ → ℕ → ℕ → HourRow
 hour energy price scheduled = record { energy = energy; price = price; scheduled = scheduled }

@@ -2,7 +2,7 @@ use Rattle.std.proofs.Common.{◌≡◌, ◌-◌, ◌≤◌, leb, length, map, g
 use Rattle.std.proofs.lemmas.List.FromFn.{fill_by_all}
 use Rattle.std.proofs.lemmas.List.{get_or-map, length-map}
 use Rattle.std.proofs.lemmas.Bool.{and_parts, leb-true}
-use Rattle.store.specs.Months.{aged, top}
+use Rattle.store.specs.Months.{earlier_peaks, top}
 use Rattle.store.specs.Records.{first_record}
 use Rattle.store.proofs.Peaks.{le_top}
 use Rattle.store.proofs.carried.write.Goals as goal
@@ -15,7 +15,7 @@ invariant_of-records c =
     λ d. (omega (arith, c.loop-i.auto.records), ((get_or c.loop-i.records c.loop-i.i d).length, (omega (arith, peak, le_top carried), tt)))
 
 pub returns : goal.returns
-unfolding aged
+unfolding earlier_peaks
 returns c =
     let records = c.loop-i.records in
     let many : length records ≡ 24 = omega (arith, c.loop-i.auto.records) in

@@ -2,7 +2,7 @@ use Rattle.std.proofs.Common.{◌≡◌, ℕ, ◌<◌, ◌≤◌, leb, List, [],
 use Rattle.std.proofs.lemmas.List.FromFn.{fill_by_all}
 use Rattle.std.proofs.lemmas.List.{get_or-map, get_or-take, length-take-le}
 use Rattle.std.proofs.lemmas.Bool.{cond_both, leb-true}
-use Rattle.tariff.specs.Limits.{HourWithin, no_hour}
+use Rattle.tariff.specs.Limits.{HourWithin, no_row}
 use Rattle.tariff.specs.declared.hours.HourRow.{HourRow}
 use Rattle.store.specs.Months.{hour_row, price_of}
 use Rattle.store.specs.Records.{hour_of}
@@ -38,7 +38,7 @@ returns c =
     let room : length hours ≤ length rows = omega (arith, c.requires.room, c.loop-h.auto.rows) in
     record {
       filled =
-          fill_by_all (hour_row (on_file c.args.quarters.now hours)) (take (length hours) rows) (length hours) no_hour (length-take-le (length hours) rows room)
+          fill_by_all (hour_row (on_file c.args.quarters.now hours)) (take (length hours) rows) (length hours) no_row (length-take-le (length hours) rows room)
           (λ k here. rw get_or-take (c.loop-h.invariant.0 k (omega arith)));
       within = c.loop-h.invariant.1;
     }

@@ -4,7 +4,7 @@ use Rattle.store.specs.declared.state.State.TheVariants.{Billed}
 use Rattle.book.specs.Books.{view}
 use Rattle.book.specs.Calls.{asks_due}
 use Rattle.book.specs.Table.{due_rows, month_open, past_limit}
-use Rattle.book.specs.Views.{altered_line, has_reached}
+use Rattle.book.specs.Views.{altered_line, month_has_reached}
 use Rattle.book.proofs.Exits.{answers_refused, answers_taken, found_state, in_book_passes, pass}
 use Rattle.book.proofs.Priced.{amounts_are, no_fault}
 use Rattle.book.proofs.book.Book.due.Goals as goal
@@ -25,7 +25,7 @@ returns g c =
     let is = c.in_ok-found.ensures in
     let ok = rw is.named at c.in_ok-amounts.ensures in
     let amounts = c.in_ok-amounts.amounts in
-    let billed : has_reached Billed m v ≡ true = found_state m v c.in_ok-found.found is Billed _ c.has_reached.ensures ∙ c.if-not-has_reached.false in
+    let billed : month_has_reached Billed m v ≡ true = found_state m v c.in_ok-found.found is Billed _ c.has_reached.ensures ∙ c.if-not-month_has_reached.false in
     answers_taken meaning (asks_due m) c.args.self.now c.is_some.result
     (in_book_passes m v c.in_ok-found.found is (due_rows meaning m v)
     ∙ pass (month_open m v) (past_limit meaning m v ∷ []) _ (rw billed refl) (pass (past_limit meaning m v) [] _ (no_fault meaning v m amounts ok) refl))

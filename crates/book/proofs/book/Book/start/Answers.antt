@@ -2,9 +2,9 @@ use Rattle.std.proofs.Common.{◌≡◌, ℕ, ◌+◌, true, false, not, ◌||�
 use Rattle.std.proofs.lemmas.Bool.{cases_Bool, cond-false, cond-true}
 use Rattle.std.proofs.lemmas.Bool.Decides.{nat_tests}
 use Rattle.ledger.specs.Ledgers.{entries_of, room_of}
-use Rattle.store.specs.Months.{fresh}
+use Rattle.store.specs.Months.{new_month}
 use Rattle.store.specs.Starts.{start_answer}
-use Rattle.store.specs.Stores.{before_of, capacity_of, months_of}
+use Rattle.store.specs.Stores.{earlier_peaks_of, capacity_of, months_of}
 use Rattle.tariff.specs.Pricing.{Meaning}
 use Rattle.tariff.specs.declared.refusal.Refusal.{Refusal}
 use Rattle.tariff.specs.declared.refusal.Refusal.TheVariants.{NoMonthFree, DaysOutside}
@@ -23,7 +23,7 @@ invariant_of-self c =
     let v = view book in
     let unbilled : Unbilled (months_of c.start.new.self) v.ledger =
     elim (cases_Bool (is_ok c.start.result)) [
-      | inl ok ↦ rw (c.start.ensures.months ok) (unbilled_started v.months v.ledger book.unbilled (fresh c.args.days))
+      | inl ok ↦ rw (c.start.ensures.months ok) (unbilled_started v.months v.ledger book.unbilled (new_month c.args.days))
       | inr err ↦ rw (c.start.ensures.refused err) book.unbilled
     ] in
     record { unbilled = unbilled }
@@ -32,14 +32,14 @@ days_alike : (days : ℕ) → not (days_within days) ≡ (ltb days 28 || ltb 31 
 days_alike days = grind (arith, nat_tests)
 
 -- an opened book with one month more, or as it was
-module _ (meaning : Meaning) (book book' : Book) (days : ℕ) (point : Point) (opened : book.point ≡ Some point) (r : Result ℕ Refusal) (is : r ≡ start_answer (view book).capacity (length (view book).months) days) (months : is_ok r ≡ true → months_of book'.store ≡ (view book).months ++ (fresh days ∷ [])) (refused : is_ok r ≡ false → book'.store ≡ book.store) (same : (book'.point ≡ book.point) × (book'.ledger ≡ book.ledger)) (before : before_of book'.store ≡ before_of book.store) (capacity : capacity_of book'.store ≡ capacity_of book.store) where
+module _ (meaning : Meaning) (book book' : Book) (days : ℕ) (point : Point) (opened : book.point ≡ Some point) (r : Result ℕ Refusal) (is : r ≡ start_answer (view book).capacity (length (view book).months) days) (months : is_ok r ≡ true → months_of book'.store ≡ (view book).months ++ (new_month days ∷ [])) (refused : is_ok r ≡ false → book'.store ≡ book.store) (same : (book'.point ≡ book.point) × (book'.ledger ≡ book.ledger)) (before : earlier_peaks_of book'.store ≡ earlier_peaks_of book.store) (capacity : capacity_of book'.store ≡ capacity_of book.store) where
   not_blank : (blank_book 0 (view book)).holds ≡ false
   not_blank = ap (λ p. not (is_some (opened_of p))) opened
 
   unaltered : (e : Refusal) → r ≡ Err e → Unaltered book book' × (view book' ≡ view book)
   unaltered e err =
       let store = refused (ap is_ok err) in
-      ((same.0, store, same.1), same_view (ap opened_of same.0) (ap before_of store) (ap months_of store) (ap entries_of same.1) (ap capacity_of store) (ap room_of same.1))
+      ((same.0, store, same.1), same_view (ap opened_of same.0) (ap earlier_peaks_of store) (ap months_of store) (ap entries_of same.1) (ap capacity_of store) (ap room_of same.1))
 
   pub performs : Performs meaning (starts days) book r book'
   performs =

@@ -2,9 +2,9 @@ use Rattle.std.proofs.Common.{◌≡◌, ℕ, ◌+◌, ◌-◌, ◌++◌, List, 
 use native.Mathlib.Nat.{add-sub_cancel_left}
 use Rattle.std.proofs.lemmas.List.FromFn.{length-map-range_with_len}
 use Rattle.std.proofs.lemmas.List.{get_or-append_right, get_or-drop, length-map, take-append-le, take_all}
-use Rattle.store.specs.Months.{aged}
+use Rattle.store.specs.Months.{earlier_peaks}
 use Rattle.store.specs.Records.{first_record, record_in}
-use Rattle.store.specs.Stores.{before_of, capacity_of}
+use Rattle.store.specs.Stores.{earlier_peaks_of, capacity_of}
 use Rattle.store.specs.declared.month.MonthRecord.{MonthRecord}
 use Rattle.store.proofs.Posted.{spared_month}
 use Rattle.store.proofs.Stretches.{months_same}
@@ -17,8 +17,8 @@ kept before records k many =
     ∙ ap (λ n. get_or (drop 24 records) n first_record) (add-sub_cancel_left 24 k) ∙ get_or-drop 24 records k first_record
 
 -- as many as are carried at the most
-many_aged : (before : List MonthRecord) (carried : List ℕ) → map (λ month. month.peak) before ≡ aged carried → length before ≡ 24
-unfolding aged
+many_aged : (before : List MonthRecord) (carried : List ℕ) → map (λ month. month.peak) before ≡ earlier_peaks carried → length before ≡ 24
+unfolding earlier_peaks
 many_aged before carried are = sym (length-map before _) ∙ ap length are ∙ length-map-range_with_len (λ i. get_or carried (24 - 1 - i) 0) 0 24
 
 pub invariant_of-self : goal.invariant_of-self
@@ -35,7 +35,7 @@ invariant_of-self c =
     }
 
 pub returns : goal.returns
-unfolding before_of capacity_of
+unfolding earlier_peaks_of capacity_of
 returns c =
     let store = c.args.self.now in
     let before = c.write.new.records in

@@ -1,5 +1,5 @@
 use Rattle.std.proofs.Common.{◌≡◌, ap, get_or, sym, arith, ◌∙◌}
-use Rattle.store.specs.Months.{apparent, no_month, peak}
+use Rattle.store.specs.Months.{peak_kva, no_month, peak}
 use Rattle.store.specs.Stores.{months_of}
 use Rattle.store.proofs.Stretches.{get_or_months, length_months}
 use Rattle.store.proofs.Tops.{apparent_read, peak_under_apparent}
@@ -14,7 +14,7 @@ returns c =
     let month = get_or (months_of store) k no_month in
     let read = c.quarters.ensures.read in
     let kw : c.in_ok-month.month.peak ≡ peak month = ap (λ m. m.peak) c.in_ok-month.ensures.1 ∙ sym (ap peak (get_or_months store k no_month here) ∙ peak_kept store k here) in
-    let kva : c.highest_of.result ≡ apparent month = c.highest_of.ensures.counted ∙ apparent_read month _ read in
+    let kva : c.highest_of.result ≡ peak_kva month = c.highest_of.ensures.counted ∙ apparent_read month _ read in
     record {
       there = omega (arith, length_months store, here);
       kw = kw;
