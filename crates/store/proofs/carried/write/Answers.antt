@@ -10,7 +10,7 @@ use Rattle.store.proofs.carried.write.Goals as goal
 pub invariant_of-records : goal.invariant_of-records
 invariant_of-records c =
     let carried = c.args.carried.now in
-    let most : top carried ≤ 1000000 = leb-true (top carried) 1000000 (and_parts (leb (length carried) 24) (leb (top carried) 1000000) c.requires.carriable).1 in
+    let most : top carried ≤ 1000000 = leb-true (top carried) 1000000 (and_parts (leb (length carried) 24) (leb (top carried) 1000000) c.requires.can_carry).1 in
     let peak : c.unwrap_or.result ≡ get_or carried (23 - c.loop-i.i) 0 = search rules in
     λ d. (omega (arith, c.loop-i.auto.records), ((get_or c.loop-i.records c.loop-i.i d).length, (omega (arith, peak, le_top carried), tt)))
 
