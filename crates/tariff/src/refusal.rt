@@ -17,9 +17,9 @@ pub struct Fault {
 /// each refusal says.
 #[derive(Clone, Copy, PartialEq, Eq, Debug)]
 pub enum Refusal {
-    /// A book that was not opened yet.
+    /// The book was not opened yet.
     BookBlank { month: u32 },
-    /// A book that is open already.
+    /// The book is open already.
     BookOpen,
     /// An opening figure outside its limit, or too many carried peaks.
     OpeningOutside,
@@ -31,25 +31,26 @@ pub enum Refusal {
     NoSuchMonth { month: u32 },
     /// A month that was made final.
     MonthFinal { month: u32 },
-    /// A place that is not there, or more hours than a month has; `place` is that place, or how many hours.
+    /// A quarter, day, hour, line or entry that is not there, as given; or more hours than a month has, and how many.
     NoSuchPlace { month: u32, place: u64 },
     /// A day's post for another point.
     OtherPoint { month: u32 },
-    /// A value outside its limit, posted to `place`.
+    /// A value outside its limit; `place` is 0, and for a day's post the first such reading, from 0, or 96 where
+    /// there are not 96.
     OutsideLimit { month: u32, place: u64 },
-    /// A reading or a price that was not posted, at `place`.
+    /// A reading or a price that was not posted; `place` is its quarter, or 3,000 and its hour.
     Missing { month: u32, place: u64 },
     /// A month that was billed already.
     MonthBilled { month: u32 },
     /// A month that was not billed yet.
     MonthOpen { month: u32 },
-    /// An earlier month that has to come first; `place` is its number.
+    /// An earlier month that has to come first; `place` is the lowest such month.
     EarlierMonth { month: u32, place: u64 },
     /// A line that passes the limit of an amount.
     LinePastLimit { month: u32, fault: Fault },
     /// Fewer free entries than are to be written; `place` is how many are free.
     LedgerFull { month: u32, place: u64 },
-    /// A month that would be priced otherwise now; `place` is how many lines would change.
+    /// A month that would be priced otherwise now; `place` is the number of the first line that would change.
     MonthDue { month: u32, place: u64 },
     /// A figure of a sheet outside its limits; `place` is its place on the sheet, from 1.
     FigureOutside { place: u64 },
