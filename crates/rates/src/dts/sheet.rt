@@ -76,7 +76,7 @@ impl Draft for DtsDraft {
 
     ghost own = { no_own };
 
-    ghost inverse = { inverse 8 dts_draft (λ draft. values_of (dts_figures draft)) (λ _. refl) (λ _. refl) (λ _. refl) };
+    ghost inverse = { inverse _ dts_draft (λ draft. values_of (dts_figures draft)) (λ _. refl) (λ _. refl) (λ _. refl) };
 
     fn figures(&self) -> Figures {
         Figures::new(&[

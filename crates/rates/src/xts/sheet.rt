@@ -45,7 +45,7 @@ impl Draft for XtsDraft {
 
     ghost own = { no_own };
 
-    ghost inverse = { inverse 4 xts_draft (λ draft. values_of (xts_figures draft)) (λ _. refl) (λ _. refl) (λ _. refl) };
+    ghost inverse = { inverse _ xts_draft (λ draft. values_of (xts_figures draft)) (λ _. refl) (λ _. refl) (λ _. refl) };
 
     fn figures(&self) -> Figures {
         Figures::new(&[

@@ -53,7 +53,7 @@ impl Draft for CreditDraft {
 
     ghost own = { credit_own };
 
-    ghost inverse = { inverse 6 credit_draft (λ draft. values_of (credit_figures draft)) (λ _. refl) (λ _. refl) (λ _. refl) };
+    ghost inverse = { inverse _ credit_draft (λ draft. values_of (credit_figures draft)) (λ _. refl) (λ _. refl) (λ _. refl) };
 
     fn figures(&self) -> Figures {
         Figures::new(&[

@@ -24,7 +24,7 @@ impl Draft for EnergyDraft {
 
     ghost own = { energy_own };
 
-    ghost inverse = { inverse 2 energy_draft (λ draft. values_of (energy_figures draft)) (λ _. refl) (λ _. refl) (λ _. refl) };
+    ghost inverse = { inverse _ energy_draft (λ draft. values_of (energy_figures draft)) (λ _. refl) (λ _. refl) (λ _. refl) };
 
     fn figures(&self) -> Figures {
         Figures::new(&[

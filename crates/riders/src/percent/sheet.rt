@@ -24,7 +24,7 @@ impl Draft for PercentDraft {
 
     ghost own = { percent_own };
 
-    ghost inverse = { inverse 2 percent_draft (λ draft. values_of (percent_figures draft)) (λ _. refl) (λ _. refl) (λ _. refl) };
+    ghost inverse = { inverse _ percent_draft (λ draft. values_of (percent_figures draft)) (λ _. refl) (λ _. refl) (λ _. refl) };
 
     fn figures(&self) -> Figures {
         Figures::new(&[
