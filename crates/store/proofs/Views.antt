@@ -3,7 +3,7 @@ use Rattle.std.proofs.Common.{◌≡◌, ℕ, ◌+◌, ◌-◌, ◌*◌, ◌<◌
 use native.Mathlib.Nat.{add-sub_cancel_left}
 use Rattle.std.proofs.Math.Nat.{mul-zero}
 use mathlib.Core.List.{map-append, map-map}
-use Rattle.std.specs.Prelude.{IfSome, MatchOption, is_some}
+use Rattle.std.specs.Prelude.{◌↔◌, IfSome, IsSome, MatchOption, is_some}
 use Rattle.std.specs.Borrow.{Bor}
 use Rattle.std.specs.Option.{option_copied}
 use Rattle.std.specs.List.{range_with_len, prefix_len}
@@ -15,6 +15,7 @@ use Rattle.store.specs.declared.carried.TheConstants.{RATCHET}
 use Rattle.store.specs.declared.memory.TheConstants.{MONTH_HOURS, MONTH_QUARTERS}
 use Rattle.store.specs.Records.{first_record, hour_of, peak_in, reading_of, record_in, stretch}
 use Rattle.store.specs.Stores.{earlier_peaks_of, month_of, months_of}
+use Rattle.store.specs.declared.month.TheConstants.{MOST_DAYS}
 use Rattle.store.specs.declared.month.MonthRecord.{MonthRecord}
 use Rattle.store.specs.declared.month.State.{State}
 use Rattle.store.specs.declared.store.Store.{Store}
@@ -107,16 +108,17 @@ module _ (store : Store) where
       let many : length records ≡ store.started = ap length are ∙ simp (length-take, length-drop) (omega arith) in
       omega (arith, ltb-false k (length records) (sym there), many)
 
-  pub record_found : (k : ℕ) (found : Option MonthRecord) → MatchOption found (store.started ≤ k) (λ month. (k < store.started) × (month ≡ record_in store.records k)) → let month = get_or (months_of store) k no_month in MatchOption found (length (months_of store) ≤ k) (λ _. k < length (months_of store)) × IfSome found (λ m. m.days ≡ month.days) × IfSome found (λ m. m.state ≡ month.state) × IfSome found (λ m. m.peak ≡ peak month)
+  pub record_found : (k : ℕ) (found : Option MonthRecord) → MatchOption found (store.started ≤ k) (λ month. (k < store.started) × (month ≡ record_in store.records k)) → let month = get_or (months_of store) k no_month in (IsSome found ↔ (k < length (months_of store))) × IfSome found (λ m. m.days ≡ month.days) × IfSome found (λ m. m.state ≡ month.state) × IfSome found (λ m. m.peak ≡ peak month)
   unfolding month_of
   record_found k (Some month) kept =
-      rw (get_or_months store k no_month kept.0) (omega (arith, length_months store, kept.0), ap (λ m. m.days) kept.1, ap (λ m. m.state) kept.1, ap (λ m. m.peak) kept.1 ∙ sym (peak_kept k kept.0))
-  record_found k None past = (omega (arith, length_months store, past), tt, tt, tt)
+      rw (get_or_months store k no_month kept.0) ((λ some. omega (arith, length_months store, kept.0), λ there. refl), ap (λ m. m.days) kept.1, ap (λ m. m.state) kept.1, ap (λ m. m.peak) kept.1 ∙ sym (peak_kept k kept.0))
+  record_found k None past = ((λ some. absurd (cc), λ there. absurd (omega (arith, length_months store, past, there))), tt, tt, tt)
 
-  pub days_found : (k days : ℕ) (found : Option MonthRecord) → MatchOption found (store.started ≤ k) (λ month. (k < store.started) × (month ≡ record_in store.records k)) → MatchOption found (days ≡ 0) (λ month. days ≡ month.days) → (days ≡ (get_or (months_of store) k no_month).days) × (days ≤ 31) × (0 < days → (k < store.started) × (days ≡ (record_in store.records k).days))
-  unfolding month_of no_month new_month
-  days_found k days (Some month) kept are =
-      let same : days ≡ (record_in store.records k).days = are ∙ ap (λ m. m.days) kept.1 in
-      (same ∙ sym (ap (λ m. m.days) (get_or_months store k no_month kept.0)), omega (arith, same, (record_in store.records k).length.1), λ some. (kept.0, same))
-  days_found k days None past are =
-      (are ∙ sym (ap (λ m. m.days) (month_past k past)), omega (arith, are), λ some. absurd (omega (arith, are)))
+  pub days_found : (k days : ℕ) (found : Option MonthRecord) → (IsSome found ↔ (k < length (months_of store))) → IfSome found (λ m. m.days ≡ (get_or (months_of store) k no_month).days) → MatchOption found (days ≡ 0) (λ m. days ≡ m.days) → (days ≡ (get_or (months_of store) k no_month).days) × (days ≤ MOST_DAYS) × (0 < days → k < store.started)
+  days_found k days (Some month) there kept are =
+      (are ∙ kept, omega (arith, are, month.length.1), λ some. omega (arith, there.0 refl, length_months store))
+  days_found k days None there kept are =
+      elim (cases_lt k store.started) [
+        | inl here ↦ absurd (let some = there.1 (omega (arith, length_months store)) in cc)
+        | inr past ↦ (are ∙ sym (no_days k past), omega (arith, are), λ some. absurd (omega (arith, are)))
+      ]

@@ -18,6 +18,6 @@ filled f xs part a n v are fits =
 
 pub returns : goal.returns
 returns c =
-    let q = filled reading_of c.args.self.now.quarters.now c.fill.new.self (2976 * c.args.k) (96 * c.args.days) _ (c.fill.ensures.after (λ y e. e)) c.requires.quarters_in_bounds in
-    let h = filled hour_of c.args.self.now.hours.now c.fill-2.new.self (744 * c.args.k) (24 * c.args.days) _ (c.fill-2.ensures.after (λ y e. e)) c.requires.hours_in_bounds in
-    record { quarters = q.0; hours = h.0; sizes = (q.1, h.1) }
+    let q = filled reading_of c.args.self.now.quarters.now c.fill.new.self (2976 * c.args.k) (96 * c.args.days) _ (c.fill.ensures.after (λ y e. e)) c.requires.quarters_there in
+    let h = filled hour_of c.args.self.now.hours.now c.fill-2.new.self (744 * c.args.k) (24 * c.args.days) _ (c.fill-2.ensures.after (λ y e. e)) c.requires.hours_there in
+    record { quarters = q.0; hours = h.0; quarters_size = q.1; hours_size = h.1 }

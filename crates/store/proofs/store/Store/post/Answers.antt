@@ -13,8 +13,9 @@ returns-in-Price-clause-posted c =
     let yes : c.is_within.result ≡ true = search (rules, tests) in
     let within : leb price 99999 ≡ true = sym (ap post_within c.in-Price.is) ∙ sym c.is_within.ensures ∙ yes in
     let started = c.days_of.ensures.there (omega arith) in
+    let days = c.days_of.ensures.recorded (omega arith) in
     let below : c.args.place < hours_of (record_at store c.args.k).days = omega arith in
-    rw c.in-Price.is (alters_hour store _ c.args.k c.args.place started.0 below (λ old. record old { price = Some price }) _ c.index-self-k.result refl refl refl refl (rw (cond-true (leb price 99999) (Some price) None within) refl))
+    rw c.in-Price.is (alters_hour store _ c.args.k c.args.place started below (λ old. record old { price = Some price }) _ c.index-self-k.result refl refl refl refl (rw (cond-true (leb price 99999) (Some price) None within) refl))
 
 pub returns-in-Scheduled-clause-posted : goal.returns-in-Scheduled-clause-posted
 returns-in-Scheduled-clause-posted c =
@@ -22,5 +23,6 @@ returns-in-Scheduled-clause-posted c =
     let kw = c.in-Scheduled.kw in
     let places : c.places.result ≡ hours_of c.days_of.result = c.places.ensures ∙ ap (λ post. post_places post c.days_of.result) c.in-Scheduled.is in
     let started = c.days_of.ensures.there (omega arith) in
+    let days = c.days_of.ensures.recorded (omega arith) in
     let below : c.args.place < hours_of (record_at store c.args.k).days = omega arith in
-    rw c.in-Scheduled.is (alters_hour store _ c.args.k c.args.place started.0 below (λ old. record old { scheduled = kw }) _ c.index-self-k-in-Scheduled.result refl refl refl refl refl)
+    rw c.in-Scheduled.is (alters_hour store _ c.args.k c.args.place started below (λ old. record old { scheduled = kw }) _ c.index-self-k-in-Scheduled.result refl refl refl refl refl)

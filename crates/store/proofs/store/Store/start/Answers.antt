@@ -33,7 +33,7 @@ returns-clause-before c = before_kept c.args.self.now _ c.args.self.now.started 
 
 pub returns-clause-capacity : goal.returns-clause-capacity
 unfolding capacity_of
-returns-clause-capacity c = rw (c.clear.ensures.sizes.0, c.clear.ensures.sizes.1) refl
+returns-clause-capacity c = rw (c.clear.ensures.quarters_size, c.clear.ensures.hours_size) refl
 
 pub invariant_of-self-2-clause-peaks : goal.invariant_of-self-2-clause-peaks
 invariant_of-self-2-clause-peaks c =
