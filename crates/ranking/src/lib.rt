@@ -1,4 +1,5 @@
-//! The highest of a list of items, for any type of item that has an order, and orders made of orders.
+//! The highest of a list of items, for any type of item that has an order; and orders made of
+//! orders.
 
 #![tactic(auto)]
 
@@ -24,7 +25,8 @@ pub trait Order<T> {
 
 // The place of the first item from a place on that stands above another.
 fn first_above<T, K: Order<T>>(items: &[T], from: usize, other: &T) -> Option<usize>
-    ensures none { IfNone result (NoneAbove K.outranks items.now from (length items.now) other.now) }
+    ensures none { IfNone result
+        (NoneAbove K.outranks items.now from (length items.now) other.now) }
     ensures later { IfSome result (λ place. from ≤ place) }
     ensures there { IfSome result (λ place. place < length items.now) }
     ensures before { IfSome result (λ place. NoneAbove K.outranks items.now from place other.now) }
@@ -39,8 +41,8 @@ fn first_above<T, K: Order<T>>(items: &[T], from: usize, other: &T) -> Option<us
     None
 }
 
-/// The place of the highest item of a list, from 0, the first among equals; `None` where the list is
-/// empty.
+/// The place of the highest item of a list, from 0, the first among equals; `None` where the list
+/// is empty.
 pub fn highest<T, K: Order<T>>(items: &[T]) -> Option<usize>
     ensures empty { IsNone result ↔ (items.now ≡ []) }
     ensures best { IfSome result (IsFirstBest K.outranks items.now (length items.now)) }

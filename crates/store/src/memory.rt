@@ -143,7 +143,8 @@ impl Memory<'_> {
     // The highest kW of `n` quarters from a place on.
     pub(crate) fn part_peak(&self, first: usize, n: usize) -> u32
         requires { first + n ≤ length self.now.quarters.now }
-        ensures counted { result ≡ top (map kw_of (take n (drop first (map reading_of self.now.quarters.now)))) }
+        ensures counted { result
+            ≡ top (map kw_of (take n (drop first (map reading_of self.now.quarters.now)))) }
         ensures within { result ≤ most_demand }
     {
         highest_of::<Quarter, Kw>(&self.quarters[first..first + n])
@@ -164,7 +165,8 @@ impl Memory<'_> {
         requires kept_within { kept ≤ most_demand }
         requires posted_within { posted ≤ most_demand }
         requires over { kept ≤ posted → peak_in self.now.quarters.now k days ≡ posted }
-        requires under { before < kept → posted < kept → peak_in self.now.quarters.now k days ≡ kept }
+        requires under { before < kept → posted < kept
+            → peak_in self.now.quarters.now k days ≡ kept }
         ensures counted { result ≡ peak_in self.now.quarters.now k days }
         ensures within { result ≤ most_demand }
     {
@@ -191,7 +193,8 @@ impl Memory<'_> {
 
     // Marks the quarters and the hours of the month at place `k`, of so many days, as never posted.
     pub(crate) fn clear(&mut self, k: usize, days: usize)
-        requires quarters_there { MONTH_QUARTERS * k + quarters_of days ≤ length self.old.quarters.now }
+        requires quarters_there { MONTH_QUARTERS * k + quarters_of days
+            ≤ length self.old.quarters.now }
         requires hours_there { MONTH_HOURS * k + hours_of days ≤ length self.old.hours.now }
         ensures quarters { map reading_of self.new.quarters.now
             ≡ sets (map reading_of self.old.quarters.now) (MONTH_QUARTERS * k)

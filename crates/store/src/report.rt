@@ -15,8 +15,8 @@ use tariff::{HourRow, Hours};
 // An hour without a price is named by its place past this, which no quarter reaches.
 const PAST_QUARTERS: u64 = 3_000;
 
-/// What a month has to have posted before it can be billed: a reading in each quarter and a price in
-/// each hour. The first that it lacks, by its place from 0.
+/// What a month lacks first before it can be billed: a reading in a quarter, or a price in an hour;
+/// by its place from 0.
 #[derive(Clone, Copy, PartialEq, Eq, Debug)]
 pub enum Missing {
     Reading { quarter: u32 },
@@ -119,8 +119,8 @@ impl Store<'_> {
     ghost use Rattle.store.specs.Rows.{rows_in};
     ghost use Rattle.store.specs.Stores.{earlier_peaks_of, month_at, months_of};
 
-    // What a memory, with room for each month and so many items a day, has of the month at place `k`;
-    // none where it is not on file.
+    // What a memory, with room for each month and so many items a day, has of the month at place
+    // `k`; none where it is not on file.
     fn on_file<'m, T>(&self, memory: &'m [T], room: usize, a_day: usize, k: usize) -> &'m [T]
         requires held { room * self.now.started ≤ length memory.now }
         requires roomed { a_day * 31 ≤ room }

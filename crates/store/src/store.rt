@@ -39,8 +39,8 @@ impl<'a> Store<'a> {
     ghost use Rattle.store.specs.Records.{record_in};
     ghost use Rattle.store.specs.Stores.{Alters, earlier_peaks_of, capacity, capacity_of, month_at, months_of};
 
-    /// A store without months in the memory that it is lent, whatever stands there. It holds as many
-    /// months as both memories have room for, 48 at the most.
+    /// A store without months in the memory that it is lent, whatever stands there. It holds as
+    /// many months as both memories have room for, 48 at the most.
     pub fn new(quarters: &'a mut [Quarter], hours: &'a mut [Hour]) -> Store<'a>
         ensures months { months_of result ≡ [] }
         ensures before { earlier_peaks_of result ≡ earlier_peaks [] }
@@ -112,8 +112,10 @@ impl<'a> Store<'a> {
     /// Starts the next month, of 28 to 31 days, with nothing posted; its number, from 1. Refused
     /// where the memory is full, and where months have not so many days.
     pub fn start(&mut self, days: u32) -> Result<u32, Refusal>
-        ensures result { result ≡ start_answer (capacity_of self.old) (length (months_of self.old)) days }
-        ensures months { OnOk result (months_of self.new ≡ months_of self.old ++ (new_month days ∷ [])) }
+        ensures result { result
+            ≡ start_answer (capacity_of self.old) (length (months_of self.old)) days }
+        ensures months { OnOk result
+            (months_of self.new ≡ months_of self.old ++ (new_month days ∷ [])) }
         ensures refused { OnErr result (self.new ≡ self.old) }
         ensures before { earlier_peaks_of self.new ≡ earlier_peaks_of self.old }
         ensures capacity { capacity_of self.new ≡ capacity_of self.old }
@@ -163,11 +165,12 @@ impl<'a> Store<'a> {
         }
     }
 
-    // Writes readings within their limits over as many quarters of the month at place `k`, and keeps
-    // its highest kW.
+    // Writes readings within their limits over as many quarters of the month at place `k`, and
+    // keeps its highest kW.
     fn write_readings(&mut self, k: usize, from: usize, readings: &[Reading])
         requires started { k < self.old.started }
-        requires there { from + length readings.now ≤ quarters_of (record_in self.old.records k).days }
+        requires there { from + length readings.now
+            ≤ quarters_of (record_in self.old.records k).days }
         requires within { prefix_len reading_within readings.now ≡ length readings.now }
         ensures { Alters k (with_readings from readings.now) self.old self.new }
     {
@@ -206,7 +209,8 @@ impl<'a> Store<'a> {
     /// none of them. A month past the last one has no day.
     pub fn post_day(&mut self, k: usize, day: usize, readings: &[Reading]) -> Result<(), PostError>
         ensures result { result ≡ post_day_answer (month_at self.old k) day readings.now }
-        ensures posted { OnOk result (Alters k (month_with_day day readings.now) self.old self.new) }
+        ensures posted { OnOk result
+            (Alters k (month_with_day day readings.now) self.old self.new) }
         ensures refused { OnErr result (self.new ≡ self.old) }
     {
         if day >= self.days_of(k) {

@@ -5,7 +5,8 @@ use Rattle.store.proofs.store.Store.days_of.Goals as goal
 pub returns : goal.returns
 returns c =
     let store = c.args.self.now in
-    let found = days_found store c.args.k c.map_or.result c.record.result c.record.ensures.there c.record.ensures.days (search rules) in
+    let found = days_found store c.args.k c.map_or.result c.record.result
+    c.record.ensures.there c.record.ensures.days (search rules) in
     record {
       read = found.0;
       within = found.1;
