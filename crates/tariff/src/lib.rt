@@ -1,30 +1,34 @@
-// The pricing of a month: refusals, money, facts, hours and what a schedule means.
+//! The pricing of a month of transmission service: what is billed for, the lines of a statement, exact money and its
+//! one rounding, sheets of figures, and what a schedule is that prices. Free of the heap: it allocates nothing.
 
 #![tactic(auto)]
 
 mod amounts;
+mod charges;
 mod facts;
+mod figure;
+mod figures;
 mod hours;
 mod limits;
 mod line;
 mod money;
 mod rate;
 mod refusal;
-mod rounded;
 mod schedule;
 mod sheet;
-mod charges;
 mod totals;
 
 pub use amounts::{Amounts, Lines};
+pub use charges::Charges;
 pub use facts::{Facts, PlainFacts};
+pub use figure::Figure;
+pub use figures::{Figures, MOST_FIGURES, Own};
 pub use hours::{HourList, HourRow, Hours};
-pub use limits::{MOST_DEMAND, MOST_PRICE};
+pub use limits::{MOST_CENTS, MOST_DEMAND, MOST_ENERGY, MOST_HOURS, MOST_PRICE};
 pub use line::{LINES, Line};
 pub use money::Fraction;
 pub use rate::Rate;
 pub use refusal::{Fault, Numbers, Refusal};
 pub use schedule::{Schedule, price};
-pub use sheet::{Draft, Figure, Sealed, Unsealed};
-pub use charges::Charges;
+pub use sheet::{Draft, Sealed, Unsealed};
 pub use totals::{Energy, EnergyValue, Measure};
