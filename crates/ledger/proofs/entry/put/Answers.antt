@@ -1,6 +1,6 @@
 use Rattle.std.proofs.Common.{refl, ◌∙◌, arith}
 use Rattle.ledger.proofs.Texts.{laid_more}
-use Rattle.ledger.proofs.printed.put.Goals as goal
+use Rattle.ledger.proofs.entry.put.Goals as goal
 
 pub returns-clause-laid : goal.returns-clause-laid
 returns-clause-laid c =
