@@ -1,5 +1,5 @@
 pub mod Texts
-pub mod Numbers
-pub mod Again
-pub mod LineTexts
+pub mod Parsing
+pub mod ReadsBack
+pub mod LineWords
 pub mod VerbWords

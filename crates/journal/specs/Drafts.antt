@@ -17,8 +17,11 @@ use Rattle.piles.specs.declared.rate.RateDraft.{RateDraft}
 use Rattle.piles.specs.declared.rate.RateDraft.TheVariants.{Dts, Gts, Xts, Dos, Sts}
 use Rattle.piles.specs.declared.rider.RiderDraft.{RiderDraft}
 use Rattle.piles.specs.declared.rider.RiderDraft.TheVariants.{Energy, Percent, Credit}
-use Rattle.journal.specs.Calls.{of}
-use Rattle.journal.specs.Said.{all_said, figure_of}
+use Rattle.journal.specs.Tokens.{figure_of, values_of}
+
+-- what is made of just so many figures
+abbrev pub of : {X Y : Type 0} → ℕ → List X → Y → Option Y
+of count figures made = cond (length figures == count) (Some made) None
 
 abbrev pub figure_at : List ℤ → ℕ → ℤ
 figure_at figures place = slice_index_or figures place (pos 0)
@@ -92,6 +95,6 @@ rider_of kind figures =
     (cond (bytes_eq kind (codes "psc")) (option_map Credit (credit_of figures)) None))
 
 -- a word, and figures after it
-abbrev pub drafted_by : {D : Type 0} → (List ℕ → List ℤ → Option D) → List (List ℕ) → Option D
-drafted_by drafts [] = None
-drafted_by drafts (kind ∷ words) = option_and_then (drafts kind) (all_said figure_of words)
+abbrev pub draft_by : {D : Type 0} → (List ℕ → List ℤ → Option D) → List (List ℕ) → Option D
+draft_by draft [] = None
+draft_by draft (kind ∷ words) = option_and_then (draft kind) (values_of figure_of words)

@@ -1,9 +1,9 @@
 // The drafts of rates and riders that words name.
 ghost use Rattle.std.specs.Prelude.{◌≡◌, ℤ, ℕ, List, Option, IfOk};
-ghost use Rattle.journal.specs.Drafts.{credit_of, dos_of, drafted_by, dts_of, energy_of, percent_of, rate_of, rider_of, sts_of, xts_of};
+ghost use Rattle.journal.specs.Drafts.{credit_of, dos_of, draft_by, dts_of, energy_of, percent_of, rate_of, rider_of, sts_of, xts_of};
 ghost use Rattle.journal.specs.Words.{words_of};
 
-use crate::said::all;
+use crate::token::parse_all;
 use crate::words::next_word;
 use piles::{RateDraft, RiderDraft};
 use rates::dos::DosDraft;
@@ -128,17 +128,17 @@ fn credit(figures: &[i64]) -> Option<CreditDraft>
 }
 
 // What a word and the figures after it name.
-pub(crate) trait Drafted: Drop {
-    ghost drafts: { List ℕ → List ℤ → Option Self };
+pub(crate) trait NamedDraft: Drop {
+    ghost draft: { List ℕ → List ℤ → Option Self };
 
-    fn drafted(kind: &str, figures: &[i64]) -> Option<Self>
-        ensures { result ≡ drafts kind.now figures.now };
+    fn draft(kind: &str, figures: &[i64]) -> Option<Self>
+        ensures { result ≡ draft kind.now figures.now };
 }
 
-impl Drafted for RateDraft {
-    ghost drafts = { rate_of };
+impl NamedDraft for RateDraft {
+    ghost draft = { rate_of };
 
-    fn drafted(kind: &str, figures: &[i64]) -> Option<RateDraft> {
+    fn draft(kind: &str, figures: &[i64]) -> Option<RateDraft> {
         Some(match kind {
             "dts" => RateDraft::Dts(dts(DtsDraft::dts_2007(), figures)?),
             "gts" => RateDraft::Gts(dts(DtsDraft::gts_2007(), figures)?),
@@ -150,10 +150,10 @@ impl Drafted for RateDraft {
     }
 }
 
-impl Drafted for RiderDraft {
-    ghost drafts = { rider_of };
+impl NamedDraft for RiderDraft {
+    ghost draft = { rider_of };
 
-    fn drafted(kind: &str, figures: &[i64]) -> Option<RiderDraft> {
+    fn draft(kind: &str, figures: &[i64]) -> Option<RiderDraft> {
         Some(match kind {
             "energy" => RiderDraft::Energy(energy(figures)?),
             "percent" => RiderDraft::Percent(percent(figures)?),
@@ -164,14 +164,14 @@ impl Drafted for RiderDraft {
 }
 
 // The draft that a text names.
-pub(crate) fn draft_of<D: Drafted>(alloc: Global, text: &str) -> Result<Option<D>, AllocError>
-    ensures { IfOk result (λ draft. draft ≡ drafted_by D.drafts (words_of text.now)) }
+pub(crate) fn draft_of<D: NamedDraft>(alloc: Global, text: &str) -> Result<Option<D>, AllocError>
+    ensures { IfOk result (λ draft. draft ≡ draft_by D.draft (words_of text.now)) }
 {
     let Some((kind, text)) = next_word(text) else {
         return Ok(None);
     };
-    let Some(figures) = all::<i64>(alloc, text)? else {
+    let Some(figures) = parse_all::<i64>(alloc, text)? else {
         return Ok(None);
     };
-    Ok(D::drafted(kind, &figures))
+    Ok(D::draft(kind, &figures))
 }
