@@ -5,9 +5,10 @@ use Rattle.std.proofs.Math.Seq.{drop-append_seam, take-append_seam}
 use Rattle.std.proofs.lemmas.List.{append_assoc, drop-drop, drop-map, length-map, length-take-le, map-set, take-append-drop, take-map}
 use Rattle.std.proofs.lemmas.List.Edits.{sets-eq}
 use Rattle.store.specs.Months.{kw_of, quarters_of, top}
+use Rattle.store.specs.declared.memory.TheConstants.{MONTH_QUARTERS}
 use Rattle.store.specs.Records.{peak_in, reading_of, stretch}
-use Rattle.store.specs.declared.quarter.Quarter.{Quarter}
-use Rattle.store.specs.declared.reading.Reading.{Reading}
+use Rattle.store.specs.declared.memory.Quarter.{Quarter}
+use Rattle.store.specs.declared.post.Reading.{Reading}
 use Rattle.store.proofs.Posted.{peak_readings}
 use Rattle.store.proofs.Stretches.{length_stretch, stretch_sets}
 use Rattle.store.proofs.Windows.{window}
@@ -51,40 +52,40 @@ part_written xs vs a fits =
     ap (take (length vs)) past ∙ take-append_seam vs (drop (a + length vs) xs)
 
 -- the peak of a month, where what was posted is no lower, and where neither it nor what it replaced is as high
-module _ (old quarters : List Quarter) (k days at : ℕ) (posted : List (Option Reading)) (below : at + length posted ≤ quarters_of days) (there : 2976 * k + quarters_of days ≤ length old) (written : map reading_of quarters ≡ sets (map reading_of old) (2976 * k + at) posted) where
+module _ (old quarters : List Quarter) (k days at : ℕ) (posted : List (Option Reading)) (below : at + length posted ≤ quarters_of days) (there : MONTH_QUARTERS * k + quarters_of days ≤ length old) (written : map reading_of quarters ≡ sets (map reading_of old) (MONTH_QUARTERS * k + at) posted) where
   kws : List ℕ
-  kws = map kw_of (stretch 2976 k (quarters_of days) (map reading_of old))
+  kws = map kw_of (stretch MONTH_QUARTERS k (quarters_of days) (map reading_of old))
 
   many : at + length (map kw_of posted) ≤ length kws
   unfolding kws
   many =
-      let all = length_stretch 2976 k (quarters_of days) (map reading_of old) (rw length-map there) in
+      let all = length_stretch MONTH_QUARTERS k (quarters_of days) (map reading_of old) (rw length-map there) in
       rw (length-map, length-map, all) below
 
   peak_written : peak_in quarters k days ≡ top (sets kws at (map kw_of posted))
   unfolding kws
   peak_written =
       peak_readings quarters k days
-      ∙ ap top (ap (map kw_of) (ap (stretch 2976 k (quarters_of days)) written ∙ stretch_sets 2976 k (quarters_of days) (map reading_of old) at posted below) ∙ map_sets kw_of (stretch 2976 k (quarters_of days) (map reading_of old)) at posted)
+      ∙ ap top (ap (map kw_of) (ap (stretch MONTH_QUARTERS k (quarters_of days)) written ∙ stretch_sets MONTH_QUARTERS k (quarters_of days) (map reading_of old) at posted below) ∙ map_sets kw_of (stretch MONTH_QUARTERS k (quarters_of days) (map reading_of old)) at posted)
 
   peak_before : peak_in old k days ≡ top kws
   unfolding kws
   peak_before = peak_readings old k days
 
-  part_before : take (length (map kw_of posted)) (drop at kws) ≡ map kw_of (take (length posted) (drop (2976 * k + at) (map reading_of old)))
+  part_before : take (length (map kw_of posted)) (drop at kws) ≡ map kw_of (take (length posted) (drop (MONTH_QUARTERS * k + at) (map reading_of old)))
   unfolding kws stretch
   part_before =
       let readings = map reading_of old in
       ap (λ n. take n (drop at kws)) (length-map posted kw_of)
-      ∙ ap (take (length posted)) (drop-map kw_of at (take (quarters_of days) (drop (2976 * k) readings)))
-      ∙ take-map kw_of (length posted) (drop at (take (quarters_of days) (drop (2976 * k) readings)))
-      ∙ ap (map kw_of) (window at (length posted) (quarters_of days) (drop (2976 * k) readings) below ∙ ap (take (length posted)) (drop-drop at (2976 * k) readings))
+      ∙ ap (take (length posted)) (drop-map kw_of at (take (quarters_of days) (drop (MONTH_QUARTERS * k) readings)))
+      ∙ take-map kw_of (length posted) (drop at (take (quarters_of days) (drop (MONTH_QUARTERS * k) readings)))
+      ∙ ap (map kw_of) (window at (length posted) (quarters_of days) (drop (MONTH_QUARTERS * k) readings) below ∙ ap (take (length posted)) (drop-drop at (MONTH_QUARTERS * k) readings))
 
   pub part_over : peak_in old k days ≤ top (map kw_of posted) → peak_in quarters k days ≡ top (map kw_of posted)
   part_over over =
       peak_written ∙ top_sets_over kws (map kw_of posted) at many (omega (arith, over, peak_before))
 
-  pub part_under : top (map kw_of (take (length posted) (drop (2976 * k + at) (map reading_of old)))) < peak_in old k days → top (map kw_of posted) ≤ peak_in old k days → peak_in quarters k days ≡ peak_in old k days
+  pub part_under : top (map kw_of (take (length posted) (drop (MONTH_QUARTERS * k + at) (map reading_of old)))) < peak_in old k days → top (map kw_of posted) ≤ peak_in old k days → peak_in quarters k days ≡ peak_in old k days
   part_under low under =
       let part = ap top part_before in
       peak_written ∙ top_sets_under kws (map kw_of posted) at many (omega (arith, low, peak_before, part)) (omega (arith, under, peak_before)) ∙ sym peak_before

@@ -5,8 +5,8 @@ use Rattle.std.proofs.lemmas.List.{length-map}
 use Rattle.std.proofs.lemmas.Bool.{cond_both, leb-true}
 use Rattle.store.specs.Months.{Month, peak_kva, kva_of, kw_of, peak, top}
 use Rattle.store.specs.Records.{reading_of}
-use Rattle.store.specs.declared.quarter.Quarter.{Quarter}
-use Rattle.store.specs.declared.reading.Reading.{Reading}
+use Rattle.store.specs.declared.memory.Quarter.{Quarter}
+use Rattle.store.specs.declared.post.Reading.{Reading}
 use Rattle.store.proofs.Peaks.{top_empty}
 
 pub top_none : {X : Type 0} (key : X → ℕ) (xs : List X) → length xs ≡ 0 → 0 ≡ top (map key xs)

@@ -16,7 +16,7 @@ leading_map p f (x ∷ xs) = ap (λ n. cond (p (f x)) (1 + n) 0) (leading_map p 
 pub position_map : {X Y : Type 0} (p : Y → Bool) (f : X → Y) (xs : List X) → position p (map f xs) ≡ position (λ x. p (f x)) xs
 position_map p f xs = rw (leading_map (λ y. not (p y)) f xs, length-map xs f)
 
-leading_not : {X : Type 0} (p : X → Bool) (xs : List X) → prefix_len (λ x. not (not (p x))) xs ≡ prefix_len p xs
+pub leading_not : {X : Type 0} (p : X → Bool) (xs : List X) → prefix_len (λ x. not (not (p x))) xs ≡ prefix_len p xs
 leading_not p [] = refl
 leading_not p (x ∷ xs) = rw (not-not (p x), leading_not p xs)
 

@@ -1,6 +1,6 @@
 pub mod Demands
 pub mod Months
+pub mod Posts
 pub mod Records
 pub mod Rows
-pub mod Starts
 pub mod Stores

@@ -1,35 +1,39 @@
 -- The months that a store's memory and records hold.
-use Rattle.std.specs.Prelude.{◌≡◌, ℕ, ◌+◌, ◌*◌, ◌<◌, cond, List, map, take, drop, Some, None, Option, nat_le, slice_index_or}
+use Rattle.std.specs.Prelude.{◌≡◌, ℕ, ◌+◌, ◌*◌, ◌<◌, if◌then◌else◌, List, map, take, drop, Some, None, Option, nat_le, slice_index_or}
 use Rattle.std.proofs.Common.{lit≤}
-use Rattle.store.specs.Months.{HourOnFile, quarters_of, kw_of, ratchet, top}
-use Rattle.store.specs.declared.reading.Reading.{Reading}
-use Rattle.store.specs.declared.quarter.Quarter.{Quarter}
-use Rattle.store.specs.declared.quarter.Hour.{Hour}
+use Rattle.tariff.specs.declared.limits.TheConstants.{MOST_PRICE}
+use Rattle.store.specs.Months.{HourOnFile, quarters_of, kw_of, top}
+use Rattle.store.specs.declared.carried.TheConstants.{RATCHET}
+use Rattle.store.specs.declared.memory.TheConstants.{MONTH_QUARTERS}
+use Rattle.store.specs.declared.memory.Quarter.{Quarter}
+use Rattle.store.specs.declared.memory.Hour.{Hour}
+use Rattle.store.specs.declared.month.TheConstants.{LEAST_DAYS}
 use Rattle.store.specs.declared.month.MonthRecord.{MonthRecord}
-use Rattle.store.specs.declared.state.State.TheVariants.{Open}
+use Rattle.store.specs.declared.month.State.TheVariants.{Open}
+use Rattle.store.specs.declared.post.Reading.{Reading}
 
 -- a quarter whose kVA is below its kW was never posted, nor was an hour whose price is above its limit
 abbrev pub reading_of : Quarter → Option Reading
-reading_of quarter = cond (nat_le quarter.kw quarter.kva) (Some (record { kw = quarter.kw; kva = quarter.kva })) None
+reading_of quarter = if nat_le quarter.kw quarter.kva then Some (record { kw = quarter.kw; kva = quarter.kva }) else None
 
 abbrev pub hour_of : Hour → HourOnFile
-hour_of hour = record { price = cond (nat_le hour.price 99999) (Some hour.price) None; scheduled = hour.scheduled }
+hour_of hour = record { price = if nat_le hour.price MOST_PRICE then Some hour.price else None; scheduled = hour.scheduled }
 
--- the stretch of memory that is the month at place k: each month has the room of 31 days
+-- the stretch of memory that is the month at place k, where each month has the same room
 unfoldable pub stretch : {X : Type 0} → ℕ → ℕ → ℕ → List X → List X
 stretch room k n memory = take n (drop (room * k) memory)
 
 -- the highest kW in the stretch of the month at place k
 unfoldable pub peak_in : List Quarter → ℕ → ℕ → ℕ
-peak_in quarters k days = top (map (λ quarter. kw_of (reading_of quarter)) (stretch 2976 k (quarters_of days) quarters))
+peak_in quarters k days = top (map (λ quarter. kw_of (reading_of quarter)) (stretch MONTH_QUARTERS k (quarters_of days) quarters))
 
 -- a record as a store has them before any month is started
 abbrev pub first_record : MonthRecord
-first_record = record { days = 28; state = Open; peak = 0; length = (lit≤ tt, lit≤ tt); within = lit≤ tt }
+first_record = record { days = LEAST_DAYS; state = Open; peak = 0; length = (lit≤ tt, lit≤ tt); within = lit≤ tt }
 
 -- the record of the month at place k, after those of the months before month 1
 abbrev pub record_in : List MonthRecord → ℕ → MonthRecord
-record_in records k = slice_index_or records (ratchet + k) first_record
+record_in records k = slice_index_or records (RATCHET + k) first_record
 
 -- the peak kept for a month is the highest kW of its stretch
 abbrev pub PeaksKept : List MonthRecord → ℕ → List Quarter → Type 0

@@ -1,9 +1,11 @@
 -- What a store holds: its months, the peaks before them, and its room.
-use Rattle.std.specs.Prelude.{◌≡◌, Bool, true, false, Result, MatchResult, ℕ, ◌/◌, min, List, map, length, take}
+use Rattle.std.specs.Prelude.{◌≡◌, ℕ, ◌/◌, min, List, map, length, take}
 use Rattle.std.specs.List.{range_with_len}
-use Rattle.store.specs.Months.{Month, months_with, quarters_of, hours_of, ratchet}
+use Rattle.store.specs.Months.{Month, months_with, quarters_of, hours_of}
 use Rattle.store.specs.Records.{hour_of, reading_of, record_in, stretch}
-use Rattle.store.specs.declared.errors.OutsideLimit.{OutsideLimit}
+use Rattle.store.specs.declared.carried.TheConstants.{RATCHET}
+use Rattle.store.specs.declared.memory.TheConstants.{MONTH_HOURS, MONTH_QUARTERS}
+use Rattle.store.specs.declared.store.TheConstants.{MOST_MONTHS}
 use Rattle.store.specs.declared.store.Store.{Store}
 
 -- the month at place k, from 0
@@ -13,8 +15,8 @@ month_of store k =
     record {
       days = month.days;
       state = month.state;
-      readings = map reading_of (stretch 2976 k (quarters_of month.days) store.memory.quarters.now);
-      hours = map hour_of (stretch 744 k (hours_of month.days) store.memory.hours.now);
+      readings = map reading_of (stretch MONTH_QUARTERS k (quarters_of month.days) store.memory.quarters.now);
+      hours = map hour_of (stretch MONTH_HOURS k (hours_of month.days) store.memory.hours.now);
     }
 
 unfoldable pub months_of : Store → List Month
@@ -22,19 +24,17 @@ months_of store = map (month_of store) (range_with_len 0 store.started)
 
 -- the peaks of the 24 months before month 1, the oldest first
 unfoldable pub earlier_peaks_of : Store → List ℕ
-earlier_peaks_of store = map (λ month. month.peak) (take ratchet store.records)
+earlier_peaks_of store = map (λ month. month.peak) (take RATCHET store.records)
 
--- how many months the memory holds
+-- how many months memory of so many quarters and hours holds
+unfoldable pub capacity : ℕ → ℕ → ℕ
+capacity quarters hours = min MOST_MONTHS (min (quarters / MONTH_QUARTERS) (hours / MONTH_HOURS))
+
 unfoldable pub capacity_of : Store → ℕ
-capacity_of store = min 48 (min (length store.memory.quarters.now / 2976) (length store.memory.hours.now / 744))
+capacity_of store = capacity (length store.memory.quarters.now) (length store.memory.hours.now)
 
 -- the month at place k is altered, and nothing else: not the peaks before month 1, nor the room
 pub record Alters (k : ℕ) (alter : Month → Month) (old new : Store) : Type 0 where
   pub months : months_of new ≡ months_with k alter (months_of old)
   pub before : earlier_peaks_of new ≡ earlier_peaks_of old
   pub capacity : capacity_of new ≡ capacity_of old
-
--- a post of one value: where it is outside its limit, it is refused and nothing changes
-abbrev pub Posts : Bool → ℕ → (Month → Month) → Store → Result (Unit {0}) OutsideLimit → Store → Type 0
-Posts within k alter old result new =
-    MatchResult result (λ _. (within ≡ true) × Alters k alter old new) (λ outside. (within ≡ false) × (outside.place ≡ 0) × (new ≡ old))

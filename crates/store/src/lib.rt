@@ -1,34 +1,20 @@
-// The months on file, in lent memory.
+//! The months on file of one point of delivery: the readings of its quarters of an hour, and the
+//! pool prices and scheduled kW of its hours, kept in lent memory; with the highest demand of each
+//! month and of those before it. The library takes no memory of its own.
 
 #![tactic(auto)]
 
 mod carried;
-mod day;
-mod demand;
-mod errors;
-mod figures;
 mod memory;
-mod missing;
 mod month;
-mod month_hours;
-mod months;
-mod on_file;
-mod orders;
-mod posts;
-mod quarter;
-mod reading;
-mod records;
-mod rows;
-mod state;
+mod post;
+mod rank;
+mod report;
 mod store;
-mod stretch;
 
-pub use demand::Demand;
-pub use errors::{CannotCarry, OutsideLimit};
-pub use missing::Missing;
-pub use month::MonthRecord;
-pub use month_hours::MonthHours;
-pub use quarter::{Hour, Quarter};
-pub use reading::Reading;
-pub use state::State;
-pub use store::Store;
+pub use carried::{CannotCarry, RATCHET};
+pub use memory::{DAY_HOURS, DAY_QUARTERS, Hour, MONTH_HOURS, MONTH_QUARTERS, Quarter};
+pub use month::{LEAST_DAYS, MOST_DAYS, MonthRecord, State};
+pub use post::{Post, PostError, Reading};
+pub use report::{Demand, Missing, MonthHours};
+pub use store::{MOST_MONTHS, Store};

@@ -1,15 +1,42 @@
-// The record of a month beside the lent memory.
-ghost use Rattle.std.specs.Prelude.{◌≤◌};
+// A month on file beside the lent memory.
+ghost use Rattle.std.specs.Prelude.{◌≡◌, ◌≤◌};
 ghost use Rattle.tariff.specs.Limits.{most_demand};
+ghost use Rattle.store.specs.declared.month.TheConstants.{LEAST_DAYS, MOST_DAYS};
 
-use crate::state::State;
+/// The days of the shortest month.
+pub const LEAST_DAYS: u32 = 28;
 
-// A month's days, its state, and the highest kW of its readings.
-#[derive(Clone, Copy)]
+/// The days of the longest month.
+pub const MOST_DAYS: u32 = 31;
+
+/// How far a month has come: it is open, then billed, then final, and never goes back.
+#[derive(Clone, Copy, PartialEq, Eq, PartialOrd, Ord, Debug)]
+pub enum State {
+    /// Posts are taken, and nothing is billed.
+    Open,
+    /// It was billed; posts are taken still, and what they alter is trued up.
+    Billed,
+    /// Nothing more is posted.
+    Final,
+}
+
+impl State {
+    ghost use Rattle.store.specs.Months.{has_reached};
+
+    /// Whether a month in this state has come as far as another.
+    pub fn has_reached(self, state: State) -> bool
+        ensures { result ≡ has_reached state self }
+    {
+        self >= state
+    }
+}
+
+/// A month's days, 28 to 31, its state, and the highest kW of its readings, 1,000,000 at the most.
+#[derive(Clone, Copy, PartialEq, Eq, Debug)]
 pub struct MonthRecord {
     pub days: u8,
     pub state: State,
     pub peak: u32,
-    ghost length: { (28 ≤ days) × (days ≤ 31) },
+    ghost length: { (LEAST_DAYS ≤ days) × (days ≤ MOST_DAYS) },
     ghost within: { peak ≤ most_demand },
 }

@@ -6,7 +6,7 @@ use Rattle.store.specs.Months.{earlier_peaks}
 use Rattle.store.specs.Records.{first_record, record_in}
 use Rattle.store.specs.Stores.{earlier_peaks_of, capacity_of}
 use Rattle.store.specs.declared.month.MonthRecord.{MonthRecord}
-use Rattle.store.proofs.Posted.{spared_month}
+use Rattle.store.proofs.Posted.{month_kept}
 use Rattle.store.proofs.Stretches.{months_same}
 use Rattle.store.proofs.store.Store.carry.Goals as goal
 
@@ -44,6 +44,6 @@ returns c =
       result = c.if-not-can_carry.ensures;
       before = ap (map (λ month. month.peak)) (take-append-le 24 before _ (omega (arith, many)) ∙ take_all 24 before (omega (arith, many))) ∙ c.write.ensures;
       refused = tt;
-      months = months_same store _ refl (λ k here. spared_month store _ k (let same = kept before store.records k many in record { days = ap (λ m. m.days) same; state = ap (λ m. m.state) same; readings = refl; hours = refl }));
+      months = months_same store _ refl (λ k here. month_kept store _ k (let same = kept before store.records k many in record { days = ap (λ m. m.days) same; state = ap (λ m. m.state) same; readings = refl; hours = refl }));
       capacity = refl;
     }

@@ -5,4 +5,4 @@ use Rattle.store.proofs.store.Store.new.Goals as goal
 
 pub returns : goal.returns
 unfolding earlier_peaks earlier_peaks_of capacity_of months_of
-returns c = record { months = refl; before = refl; capacity = refl; memory = (refl, refl) }
+returns c = record { months = refl; before = refl; capacity = refl; quarters = refl; hours = refl }

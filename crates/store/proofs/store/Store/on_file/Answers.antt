@@ -16,8 +16,8 @@ returns-in-Some g c =
     let few : c.args.a_day * month.days ≤ c.args.a_day * 31 = mul-le-mul_left c.args.a_day month.length.1 in
     let next = mul-le-mul_left c.args.room here in
     let fits : c.args.room * k + c.args.a_day * month.days ≤ length c.args.memory.now = grind (arith, next, few) in
-    let long : length c.month_stretch.result.now ≡ c.args.a_day * month.days = ap length c.month_stretch.ensures ∙ length_stretch c.args.room k (c.args.a_day * month.days) c.args.memory.now fits in
-    rw (sym days) (record { read = c.month_stretch.ensures; counted = long; few = omega (arith, long, few) })
+    let long : length c.stretch.result.now ≡ c.args.a_day * month.days = ap length c.stretch.ensures ∙ length_stretch c.args.room k (c.args.a_day * month.days) c.args.memory.now fits in
+    rw (sym days) (record { read = c.stretch.ensures; counted = long; few = omega (arith, long, few) })
 
 pub returns-in-None : goal.returns-in-None
 returns-in-None g c =

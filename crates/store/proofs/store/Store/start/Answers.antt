@@ -2,8 +2,9 @@ use Rattle.std.proofs.Common.{◌+◌, ◌*◌, ◌<◌, replicate, None, Option
 use lib.Seq.{sets}
 use Rattle.std.proofs.lemmas.List.{length-replicate}
 use Rattle.std.proofs.lemmas.Bool.Decides.{nat_tests}
+use Rattle.store.specs.Months.{new_hour}
 use Rattle.store.specs.Stores.{capacity_of}
-use Rattle.store.specs.declared.reading.Reading.{Reading}
+use Rattle.store.specs.declared.post.Reading.{Reading}
 use Rattle.store.proofs.Posted.{before_kept, hours_in, months_started, peak_cleared, peaks_kept, readings_in}
 use Rattle.store.proofs.Stretches.{length_months}
 use Rattle.store.proofs.store.Store.start.Goals as goal
@@ -24,8 +25,8 @@ returns-clause-months c =
     let days = c.args.days in
     let few : k < 48 = omega arith in
     let written = c.clear.ensures.quarters ∙ ap (λ a. sets (readings_in store) a (replicate (96 * days) None)) (sym (add-zero (2976 * k))) in
-    let cleared = c.clear.ensures.hours ∙ ap (λ a. sets (hours_in store) a (replicate (24 * days) (record { price = None; scheduled = 0 }))) (sym (add-zero (744 * k))) in
-    λ yes. months_started store _ days _ few (omega arith) (omega arith) (omega arith) refl refl refl refl written cleared
+    let cleared = c.clear.ensures.hours ∙ ap (λ a. sets (hours_in store) a (replicate (24 * days) new_hour)) (sym (add-zero (744 * k))) in
+    months_started store _ days _ few (omega arith) (omega arith) (omega arith) refl refl refl refl written cleared
 
 pub returns-clause-before : goal.returns-clause-before
 returns-clause-before c = before_kept c.args.self.now _ c.args.self.now.started _ (omega arith) refl

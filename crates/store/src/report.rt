@@ -1,0 +1,223 @@
+// What is told of the months on file.
+ghost use Rattle.std.specs.Prelude.{◌≡◌, ℕ, ◌+◌, ◌*◌, ◌<◌, ◌≤◌, [], map, min, length, take, is_none, IfSome, MatchOption, slice_index_or};
+ghost use Rattle.std.specs.List.{position, range_with_len};
+ghost use Rattle.tariff.specs.Limits.{HourWithin, RowsWithin, most_hours, no_row};
+ghost use Rattle.store.specs.Months.{hour_row};
+ghost use Rattle.store.specs.Records.{hour_of, reading_of, stretch};
+
+use crate::carried::RATCHET;
+use crate::memory::{DAY_HOURS, DAY_QUARTERS, Hour, MONTH_HOURS, MONTH_QUARTERS, Memory, Quarter};
+use crate::month::{MonthRecord, State};
+use crate::rank::{Kva, Peak, highest_of};
+use crate::store::Store;
+use tariff::{HourRow, Hours};
+
+// An hour without a price is named by its place past this, which no quarter reaches.
+const PAST_QUARTERS: u64 = 3_000;
+
+/// What a month has to have posted before it can be billed: a reading in each quarter and a price in
+/// each hour. The first that it lacks, by its place from 0.
+#[derive(Clone, Copy, PartialEq, Eq, Debug)]
+pub enum Missing {
+    Reading { quarter: u32 },
+    Price { hour: u32 },
+}
+
+impl Missing {
+    ghost use Rattle.store.specs.Months.{missing_place};
+
+    /// The place by which a refusal names it: a quarter by itself, an hour by 3,000 more.
+    pub fn place(self) -> u64
+        ensures { result ≡ missing_place self }
+    {
+        match self {
+            Missing::Reading { quarter } => quarter as u64,
+            Missing::Price { hour } => PAST_QUARTERS + hour as u64,
+        }
+    }
+}
+
+/// The demand figures of a month: its highest kW and its highest kVA, and the highest kW of the 24
+/// months before it.
+#[derive(Clone, Copy, PartialEq, Eq, Debug)]
+pub struct Demand {
+    pub peak: u32,
+    pub peak_kva: u32,
+    pub ratchet_peak: u32,
+}
+
+/// The rows of a month's hours, by which a rate prices it.
+#[derive(Drop)]
+pub struct MonthHours {
+    pub(crate) rows: [HourRow; MONTH_HOURS],
+    pub(crate) count: usize,
+    ghost room: { length rows ≡ most_hours },
+    ghost few: { count ≤ most_hours },
+    ghost within: { (k : ℕ) → HourWithin (slice_index_or rows k no_row) },
+}
+
+impl MonthHours {
+    ghost use Rattle.store.specs.Rows.{rows_in};
+
+    /// The rows, from the first hour on.
+    pub fn hours(&self) -> Hours<'_>
+        ensures { result.rows.now ≡ rows_in self.now }
+    {
+        Hours {
+            rows: &self.rows[0..self.count],
+        }
+    }
+}
+
+// As many rows as the longest month has hours, all 0.
+fn blank_rows() -> [HourRow; MONTH_HOURS]
+    ensures room { length result ≡ most_hours }
+    ensures within { RowsWithin result }
+{
+    [HourRow {
+        energy: 0,
+        price: 0,
+        scheduled: 0,
+    }; MONTH_HOURS]
+}
+
+// The kW of the four quarters of hour `h`.
+fn energy(quarters: &[Quarter], h: usize) -> u32
+    requires { 4 * h + 4 ≤ length quarters.now }
+    ensures summed { result ≡ (hour_row (map reading_of quarters.now) [] h).energy }
+    ensures within { result ≤ 4000000 }
+{
+    let first = 4 * h;
+    quarters[first].kw()
+        + quarters[first + 1].kw()
+        + quarters[first + 2].kw()
+        + quarters[first + 3].kw()
+}
+
+// Writes the row of each hour to its place.
+fn fill_rows(rows: &mut [HourRow], quarters: &[Quarter], hours: &[Hour])
+    requires room { length hours.now ≤ length rows.old }
+    requires quartered { length quarters.now ≡ 4 * length hours.now }
+    requires within { RowsWithin rows.old }
+    ensures filled { take (length hours.now) rows.new ≡ map (hour_row (map reading_of quarters.now) (map hour_of hours.now)) (range_with_len 0 (length hours.now)) }
+    ensures within { RowsWithin rows.new }
+{
+    for (h, hour) in hours.iter().enumerate() {
+        rows[h] = HourRow {
+            energy: energy(quarters, h),
+            price: hour.price().unwrap_or(0),
+            scheduled: hour.scheduled,
+        };
+    }
+}
+
+impl Store<'_> {
+    ghost use Rattle.store.specs.Demands.{IsDemandOf};
+    ghost use Rattle.store.specs.Months.{first_missing, first_short, hour_rows, no_month, quarters_of, hours_of};
+    ghost use Rattle.store.specs.Rows.{rows_in};
+    ghost use Rattle.store.specs.Stores.{earlier_peaks_of, months_of};
+
+    // What a memory, with room for each month and so many items a day, has of the month at place `k`;
+    // none where it is not on file.
+    fn on_file<'m, T>(&self, memory: &'m [T], room: usize, a_day: usize, k: usize) -> &'m [T]
+        requires held { room * self.now.started ≤ length memory.now }
+        requires roomed { a_day * 31 ≤ room }
+        ensures read { result.now ≡ stretch room k (a_day * (slice_index_or (months_of self.now) k no_month).days) memory.now }
+        ensures counted { length result.now ≡ a_day * (slice_index_or (months_of self.now) k no_month).days }
+        ensures few { length result.now ≤ a_day * 31 }
+    {
+        match self.month(k) {
+            Some(month) => Memory::stretch(memory, room, k, a_day * month.days as usize),
+            None => &[],
+        }
+    }
+
+    // Its quarters.
+    fn quarters(&self, k: usize) -> &[Quarter]
+        ensures read { map reading_of result.now ≡ (slice_index_or (months_of self.now) k no_month).readings }
+        ensures counted { length result.now ≡ quarters_of (slice_index_or (months_of self.now) k no_month).days }
+        ensures few { length result.now ≤ MONTH_QUARTERS }
+    {
+        self.on_file(self.memory.quarters, MONTH_QUARTERS, DAY_QUARTERS, k)
+    }
+
+    // Its hours.
+    fn hours_on_file(&self, k: usize) -> &[Hour]
+        ensures read { map hour_of result.now ≡ (slice_index_or (months_of self.now) k no_month).hours }
+        ensures counted { length result.now ≡ hours_of (slice_index_or (months_of self.now) k no_month).days }
+        ensures few { length result.now ≤ MONTH_HOURS }
+    {
+        self.on_file(self.memory.hours, MONTH_HOURS, DAY_HOURS, k)
+    }
+
+    // The first quarter of the month at place `k` that has no reading.
+    fn unread(&self, k: usize) -> Option<usize>
+        ensures first { result ≡ position is_none (slice_index_or (months_of self.now) k no_month).readings }
+        ensures within { IfSome result (λ quarter. quarter < MONTH_QUARTERS) }
+    {
+        self.quarters(k)
+            .iter()
+            .position(|quarter| quarter.reading().is_none())
+    }
+
+    // Its first hour that has no price.
+    fn unpriced(&self, k: usize) -> Option<usize>
+        ensures first { result ≡ position (λ hour. is_none hour.price) (slice_index_or (months_of self.now) k no_month).hours }
+        ensures within { IfSome result (λ hour. hour < MONTH_HOURS) }
+    {
+        self.hours_on_file(k)
+            .iter()
+            .position(|hour| hour.price().is_none())
+    }
+
+    /// What the month at place `k` lacks first, a reading before a price; `None` where it can be
+    /// billed, and past the last month.
+    #[tactic(auto, unfolding(crate::specs::Months::first_missing))]
+    pub fn missing(&self, k: usize) -> Option<Missing>
+        ensures { result ≡ first_missing (slice_index_or (months_of self.now) k no_month) }
+    {
+        if let Some(quarter) = self.unread(k) {
+            return Some(Missing::Reading {
+                quarter: quarter as u32,
+            });
+        }
+        let hour = self.unpriced(k)?;
+        Some(Missing::Price { hour: hour as u32 })
+    }
+
+    /// The place of the first of the months before place `k` that has not reached a state; `None`
+    /// where all have.
+    pub fn first_short(&self, state: State, k: usize) -> Option<usize>
+        ensures { MatchOption result (first_short state (months_of self.now) k ≡ min (length (months_of self.now)) k) (λ short. (first_short state (months_of self.now) k ≡ short) × (short < min (length (months_of self.now)) k)) }
+    {
+        self.months()
+            .iter()
+            .take(k)
+            .position(|month| !month.state.has_reached(state))
+    }
+
+    /// The demand figures of the month at place `k`; `None` where it is not on file.
+    pub fn demand(&self, k: usize) -> Option<Demand>
+        ensures { MatchOption result (length (months_of self.now) ≤ k) (IsDemandOf (earlier_peaks_of self.now) (months_of self.now) k) }
+    {
+        let month = self.month(k)?;
+        Some(Demand {
+            peak: month.peak,
+            peak_kva: highest_of::<Quarter, Kva>(self.quarters(k)),
+            ratchet_peak: highest_of::<MonthRecord, Peak>(&self.records[k..k + RATCHET]),
+        })
+    }
+
+    /// The hours of the month at place `k`; no hours where it is not on file.
+    pub fn hours(&self, k: usize) -> MonthHours
+        ensures { rows_in result ≡ hour_rows (slice_index_or (months_of self.now) k no_month) }
+    {
+        let hours = self.hours_on_file(k);
+        let mut rows = blank_rows();
+        fill_rows(&mut rows, self.quarters(k), hours);
+        MonthHours {
+            rows,
+            count: hours.len(),
+        }
+    }
+}
