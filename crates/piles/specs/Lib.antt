@@ -1,6 +1,6 @@
 pub mod Rates
 pub mod Riders
 pub mod Piles
-pub mod RateLimits
-pub mod RiderBounds
+pub mod RateLaws
+pub mod RiderLaws
 pub mod PileLimits

@@ -2,10 +2,12 @@
 
 #![tactic(auto)]
 
+mod kind;
 mod pile;
 mod rate;
 mod rider;
 
+pub use kind::SheetKind;
 pub use pile::Pile;
-pub use rate::{RateDraft, RateSheet};
-pub use rider::{RiderDraft, RiderSheet};
+pub use rate::{RateDraft, RateKind, RateSheet};
+pub use rider::{RiderDraft, RiderKind, RiderSheet};

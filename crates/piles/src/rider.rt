@@ -1,14 +1,86 @@
 // A rider chosen at run time.
 ghost use Rattle.std.specs.Prelude.{◌≡◌, MatchResult};
 ghost use Rattle.tariff.specs.Sheets.{IsFirstOutside};
-ghost use Rattle.piles.specs.Riders.{drafted, rider_adds, rider_figures, rider_line, rider_number};
-ghost use Rattle.piles.specs.RiderBounds.{rider_bounded};
+ghost use Rattle.piles.specs.Riders.{rider_amount, rider_draft, rider_figures, rider_from_figures, rider_kind, rider_line, rider_number, rider_own, rider_published};
+ghost use Rattle.piles.specs.RiderLaws.{rider_bounded, rider_complete, rider_given_back, rider_read_back};
 
+use crate::kind::SheetKind;
 use riders::Adjustment;
 use riders::credit::{CreditDraft, CreditSheet};
 use riders::energy::{EnergyDraft, EnergySheet};
 use riders::percent::{PercentDraft, PercentSheet};
-use tariff::{Amounts, Draft, Facts, Fraction, Hours, Line, Refusal};
+use tariff::{Amounts, Draft, Facts, Figures, Fraction, Hours, Line, Own, Refusal};
+
+/// Which rider stands over a schedule.
+#[derive(Clone, Copy, PartialEq, Eq, Debug)]
+pub enum RiderKind {
+    Energy,
+    Percent,
+    Credit,
+}
+
+impl SheetKind for RiderKind {
+    type Draft = RiderDraft;
+
+    ghost kind_of = { rider_kind };
+
+    ghost figures = { rider_figures };
+
+    ghost from_figures = { rider_from_figures };
+
+    ghost published = { rider_published };
+
+    ghost own = { rider_own };
+
+    ghost read_back = { rider_read_back };
+
+    ghost given_back = { rider_given_back };
+
+    ghost complete = { rider_complete };
+
+    fn of(draft: &RiderDraft) -> RiderKind {
+        match draft {
+            RiderDraft::Energy(_) => RiderKind::Energy,
+            RiderDraft::Percent(_) => RiderKind::Percent,
+            RiderDraft::Credit(_) => RiderKind::Credit,
+        }
+    }
+
+    fn figures(draft: &RiderDraft) -> Figures {
+        match draft {
+            RiderDraft::Energy(draft) => draft.figures(),
+            RiderDraft::Percent(draft) => draft.figures(),
+            RiderDraft::Credit(draft) => draft.figures(),
+        }
+    }
+
+    fn from_figures(self, values: &[i64]) -> Option<RiderDraft> {
+        Some(match self {
+            RiderKind::Energy => RiderDraft::Energy(EnergyDraft::from_figures(values)?),
+            RiderKind::Percent => RiderDraft::Percent(PercentDraft::from_figures(values)?),
+            RiderKind::Credit => RiderDraft::Credit(CreditDraft::from_figures(values)?),
+        })
+    }
+
+    fn published(self) -> RiderDraft {
+        match self {
+            RiderKind::Energy => RiderDraft::Energy(EnergyDraft { number: 0, rate: 0 }),
+            RiderKind::Percent => RiderDraft::Percent(PercentDraft {
+                number: 0,
+                factor: 0,
+            }),
+            RiderKind::Credit => RiderDraft::Credit(CreditDraft::published_2009(0)),
+        }
+    }
+
+    fn own(self) -> Own {
+        match self {
+            RiderKind::Energy => EnergyDraft::own(),
+            RiderKind::Percent => PercentDraft::own(),
+            RiderKind::Credit => CreditDraft::own(),
+        }
+    }
+}
 
 // The draft of any rider.
 #[derive(Clone, Copy)]
@@ -30,7 +102,7 @@ impl TryFrom<RiderDraft> for RiderSheet {
     type Error = Refusal;
 
     // sealed as the draft of that rider is
-    ghost try_from_gives = { λ draft result. MatchResult result (λ sheet. drafted sheet ≡ draft) (IsFirstOutside (rider_figures draft)) };
+    ghost try_from_gives = { λ draft result. MatchResult result (λ sheet. rider_draft sheet ≡ draft) (IsFirstOutside (rider_figures draft)) };
 
     fn try_from(draft: RiderDraft) -> Result<RiderSheet, Refusal> {
         Ok(match draft {
@@ -42,11 +114,11 @@ impl TryFrom<RiderDraft> for RiderSheet {
 }
 
 impl Adjustment for RiderSheet {
-    ghost numbered = { rider_number };
+    ghost number = { rider_number };
 
-    ghost onto = { rider_line };
+    ghost line = { rider_line };
 
-    ghost adds = { rider_adds };
+    ghost exact = { rider_amount };
 
     ghost bounded = { rider_bounded };
 

@@ -1,6 +1,6 @@
 pub mod Cents
 pub mod ChargeBounds
-pub mod Figures
+pub mod DraftFigures
 pub mod Nearest
 pub mod Products
 pub mod Sums

@@ -4,10 +4,10 @@ use Rattle.tariff.specs.declared.facts.PlainFacts.{PlainFacts}
 use Rattle.tariff.specs.declared.hours.HourRow.{HourRow}
 
 -- n items stand before the first one outside its limits; all of them where there is none
-pub record Front {X : Type 0} (Within : X → Type 0) (xs : List X) (n : ℕ) : Type 0 where
+pub record WithinUpTo {X : Type 0} (Within : X → Type 0) (xs : List X) (n : ℕ) : Type 0 where
   pub there : n ≤ length xs
   pub before : (k : ℕ) (d : X) → k < n → Within (slice_index_or xs k d)
-  pub outside : (d : X) → n < length xs → Within (slice_index_or xs n d) → ⊥
+  pub outside : (d : X) → n < length xs → ¬ Within (slice_index_or xs n d)
 
 -- kW or kVA
 abbrev pub most_demand : ℕ

@@ -3,7 +3,10 @@
 #![tactic(auto)]
 
 mod amounts;
+mod charges;
 mod facts;
+mod figure;
+mod figures;
 mod hours;
 mod limits;
 mod line;
@@ -13,11 +16,13 @@ mod refusal;
 mod rounded;
 mod schedule;
 mod sheet;
-mod charges;
 mod totals;
 
 pub use amounts::{Amounts, Lines};
+pub use charges::Charges;
 pub use facts::{Facts, PlainFacts};
+pub use figure::Figure;
+pub use figures::{Figures, MOST_FIGURES, Own};
 pub use hours::{HourList, HourRow, Hours};
 pub use limits::{MOST_DEMAND, MOST_PRICE};
 pub use line::{LINES, Line};
@@ -25,6 +30,5 @@ pub use money::Fraction;
 pub use rate::Rate;
 pub use refusal::{Fault, Numbers, Refusal};
 pub use schedule::{Schedule, price};
-pub use sheet::{Draft, Figure, Sealed, Unsealed};
-pub use charges::Charges;
+pub use sheet::{Draft, Sealed, Unsealed};
 pub use totals::{Energy, EnergyValue, Measure};

@@ -1,50 +1,13 @@
-// What sealing a sheet checks.
-ghost use Rattle.std.specs.Prelude.{◌≡◌, List, MatchResult};
-ghost use Rattle.tariff.specs.Sheets.{FigureWithin, FiguresWithin, IsFirstOutside};
-ghost use Rattle.tariff.specs.declared.sheet.Figure.{Figure as Limited};
+ghost use Rattle.std.specs.Prelude.{◌≡◌, ◌↔◌, List, ℤ, Option, Some, MatchResult};
+ghost use Rattle.tariff.specs.Sheets.{FigureList, FiguresWithin, IsFirstOutside, OwnPlaces, figure_list, values_of};
 
-use crate::limits::{Bounded, first_outside};
+use crate::figures::{Figures, Own};
+use crate::limits::first_outside;
 use crate::refusal::Refusal;
 use std::alloc::AllocError;
 
-// A figure of a sheet with the limits within which it can be sealed.
-#[derive(Clone, Copy)]
-pub struct Figure {
-    pub value: i64,
-    pub low: i64,
-    pub high: i64,
-}
-
-impl Bounded for Figure {
-    ghost bounds = { FigureWithin };
-
-    fn is_within(&self) -> bool {
-        self.low <= self.value && self.value <= self.high
-    }
-}
-
-impl Figure {
-    pub fn between(low: i64, high: i64, value: i64) -> Figure
-        ensures { result ≡ record { value = value; low = low; high = high } }
-    {
-        Figure { value, low, high }
-    }
-
-    // Refused where a figure is outside its limits, with the place of the first such, from 1.
-    pub fn check(figures: &[Figure]) -> Result<(), Refusal>
-        ensures { MatchResult result (λ _. FiguresWithin figures.now) (IsFirstOutside figures.now) }
-    {
-        match first_outside(figures) {
-            Some(within) => Err(Refusal::FigureOutside {
-                place: within as u64 + 1,
-            }),
-            None => Ok(()),
-        }
-    }
-}
-
-// A draft that could not be sealed, as it was, with the reason.
-#[derive(Clone, Copy)]
+/// A draft that could not be sealed, as it was, with the reason.
+#[derive(Clone, Copy, PartialEq, Eq, Debug)]
 pub struct Unsealed<D> {
     pub refusal: Refusal,
     pub draft: D,
@@ -58,42 +21,55 @@ impl<D: Drop> From<Unsealed<D>> for Refusal {
     }
 }
 
-// The figures of a sheet that is still being filled in, any numbers.
+/// The figures of a sheet that is still being filled in, any numbers.
 pub trait Draft: Copy {
     // each figure in its order with its limits
-    ghost listed: { Self → List Limited };
+    ghost figures: { Self → FigureList };
 
-    // Refused where a figure is outside its limits, with the place of the first such, from 1. Each draft
-    // checks its own array: the length would else be a parameter of every type that names a sheet.
-    fn check(&self) -> Result<(), Refusal>
-        ensures { MatchResult result (λ _. FiguresWithin (listed self.now)) (IsFirstOutside (listed self.now)) };
+    // the draft of these figures, where there are just so many
+    ghost from_figures: { List ℤ → Option Self };
 
-    // What comes back where a draft is not sealed: the draft as it was, with the reason. A method of its
-    // own, so that an impl which says it otherwise is held to this.
-    fn unsealed(self, refusal: Refusal) -> Unsealed<Self>
-        ensures { (result.draft ≡ self) × (result.refusal ≡ refusal) }
-    {
-        Unsealed {
-            refusal,
-            draft: self,
-        }
-    }
+    ghost own: { OwnPlaces };
 
-    // Refused where a figure is outside its limits; the draft comes back as it was.
+    /// The figures in the order of the sheet, each with its limits.
+    fn figures(&self) -> Figures
+        ensures { figure_list result ≡ figures self.now };
+
+    /// The draft of these figures, in the order of the sheet; `None` unless there are just so many.
+    fn from_figures(values: &[i64]) -> Option<Self>
+        ensures { result ≡ from_figures values.now };
+
+    /// Which figures are the customer's own.
+    fn own() -> Own
+        ensures { result ≡ own };
+
+    /// Refused where a figure is outside its limits, with the place of the first such, from 1; the draft comes
+    /// back as it was.
     final fn seal(self) -> Result<Sealed<Self>, Unsealed<Self>>
-        ensures { MatchResult result (λ sheet. sheet.figures ≡ self) (λ unsealed. (unsealed.draft ≡ self) × IsFirstOutside (listed self) unsealed.refusal) }
+        ensures { MatchResult result
+            (λ sheet. sheet.draft ≡ self)
+            (λ unsealed. (unsealed.draft ≡ self) × IsFirstOutside (figures self) unsealed.refusal) }
     {
-        match self.check() {
-            Ok(()) => Ok(Sealed { figures: self }),
-            Err(refusal) => Err(self.unsealed(refusal)),
+        let figures = self.figures();
+        match first_outside(figures.as_slice()) {
+            Some(before) => Err(Unsealed {
+                refusal: Refusal::FigureOutside {
+                    place: before as u64 + 1,
+                },
+                draft: self,
+            }),
+            None => Ok(Sealed { draft: self }),
         }
     }
+
+    // a draft is made of its own figures alone, and has those that it was made of
+    ghost inverse: { (values : List ℤ) (draft : Self) → (from_figures values ≡ Some draft) ↔ (values_of (figures draft) ≡ values) };
 }
 
-// A sealed sheet: its figures lie within their limits and stay as they are.
+/// A sealed sheet: its figures lie within their limits and stay as they are.
 pub struct Sealed<D: Draft> {
-    figures: D,
-    ghost within: { FiguresWithin (D.listed figures) },
+    draft: D,
+    ghost within: { FiguresWithin (D.figures draft) },
 }
 
 impl<D: Draft> Copy for Sealed<D> {}
@@ -106,10 +82,11 @@ impl<D: Draft> Clone for Sealed<D> {
 }
 
 impl<D: Draft> Sealed<D> {
-    pub fn figures(&self) -> &D
-        ensures figures { result.now ≡ self.now.figures }
-        ensures within { FiguresWithin (D.listed result.now) }
+    /// The draft that was sealed.
+    pub fn draft(&self) -> &D
+        ensures draft { result.now ≡ self.now.draft }
+        ensures within { FiguresWithin (D.figures result.now) }
     {
-        &self.figures
+        &self.draft
     }
 }

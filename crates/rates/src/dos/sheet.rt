@@ -1,8 +1,10 @@
 // The sheet of rate DOS 7 Minutes.
-ghost use Rattle.std.specs.Prelude.{◌≡◌};
-ghost use Rattle.rates.specs.Dos.{dos_2009, dos_figures};
+ghost use Rattle.std.specs.Prelude.{◌≡◌, refl};
+ghost use Rattle.tariff.specs.Sheets.{values_of};
+ghost use Rattle.tariff.proofs.DraftFigures.{inverse};
+ghost use Rattle.rates.specs.Dos.{dos_2009, dos_draft, dos_figures, dos_from_figures, dos_own};
 
-use tariff::{Draft, Figure, Refusal, Sealed};
+use tariff::{Draft, Figure, Figures, Own, Sealed};
 
 // The published figures; capacity and loss factor are the customer's own.
 pub const DOS_2009_ENERGY: i64 = 528;
@@ -34,23 +36,39 @@ impl DosDraft {
             loss_factor,
         }
     }
+}
 
-    fn figures(&self) -> [Figure; 4]
-        ensures { result ≡ dos_figures self.now }
-    {
-        [
+impl Draft for DosDraft {
+    ghost figures = { dos_figures };
+
+    ghost from_figures = { dos_from_figures };
+
+    ghost own = { dos_own };
+
+    ghost inverse = { inverse 4 dos_draft (λ draft. values_of (dos_figures draft)) (λ _. refl) (λ _. refl) (λ _. refl) };
+
+    fn figures(&self) -> Figures {
+        Figures::new(&[
             Figure::between(0, 100_000, self.energy),
             Figure::between(0, 10_000_000, self.transaction_fee),
             Figure::between(1, 1_000_000, self.opportunity_capacity),
             Figure::between(-10_000, 10_000, self.loss_factor),
-        ]
+        ])
     }
-}
 
-impl Draft for DosDraft {
-    ghost listed = { dos_figures };
+    fn from_figures(values: &[i64]) -> Option<DosDraft> {
+        match *values {
+            [energy, transaction_fee, opportunity_capacity, loss_factor] => Some(DosDraft {
+                energy,
+                transaction_fee,
+                opportunity_capacity,
+                loss_factor,
+            }),
+            _ => None,
+        }
+    }
 
-    fn check(&self) -> Result<(), Refusal> {
-        Figure::check(&self.figures())
+    fn own() -> Own {
+        Own { first: 2, count: 2 }
     }
 }

@@ -1,8 +1,10 @@
 // The sheet of rate DTS, which rate GTS has too.
-ghost use Rattle.std.specs.Prelude.{◌≡◌};
-ghost use Rattle.rates.specs.Dts.{dts_2007, dts_figures, gts_2007};
+ghost use Rattle.std.specs.Prelude.{◌≡◌, refl};
+ghost use Rattle.tariff.specs.Sheets.{no_own, values_of};
+ghost use Rattle.tariff.proofs.DraftFigures.{inverse};
+ghost use Rattle.rates.specs.Dts.{dts_2007, dts_draft, dts_figures, dts_from_figures, gts_2007};
 
-use tariff::{Draft, Figure, Refusal, Sealed};
+use tariff::{Draft, Figure, Figures, Own, Sealed};
 
 // The figures of a sheet that is still being filled in, any numbers. Cents per MW or MVA of
 // demand, per MWh of energy, per month (delivery_fixed), and hundredths of a percent of the
@@ -56,11 +58,19 @@ impl DtsDraft {
     {
         GTS_2007
     }
+}
 
-    fn figures(&self) -> [Figure; 8]
-        ensures { result ≡ dts_figures self.now }
-    {
-        [
+impl Draft for DtsDraft {
+    ghost figures = { dts_figures };
+
+    ghost from_figures = { dts_from_figures };
+
+    ghost own = { no_own };
+
+    ghost inverse = { inverse 8 dts_draft (λ draft. values_of (dts_figures draft)) (λ _. refl) (λ _. refl) (λ _. refl) };
+
+    fn figures(&self) -> Figures {
+        Figures::new(&[
             Figure::between(0, 10_000_000, self.system_demand),
             Figure::between(0, 100_000, self.system_energy),
             Figure::between(0, 10_000_000, self.delivery_demand),
@@ -69,14 +79,35 @@ impl DtsDraft {
             Figure::between(0, 100_000, self.voltage_control),
             Figure::between(0, 10_000_000, self.other_support),
             Figure::between(0, 10_000_000, self.power_factor),
-        ]
+        ])
     }
-}
 
-impl Draft for DtsDraft {
-    ghost listed = { dts_figures };
+    fn from_figures(values: &[i64]) -> Option<DtsDraft> {
+        match *values {
+            [
+                system_demand,
+                system_energy,
+                delivery_demand,
+                delivery_fixed,
+                operating_reserve,
+                voltage_control,
+                other_support,
+                power_factor,
+            ] => Some(DtsDraft {
+                system_demand,
+                system_energy,
+                delivery_demand,
+                delivery_fixed,
+                operating_reserve,
+                voltage_control,
+                other_support,
+                power_factor,
+            }),
+            _ => None,
+        }
+    }
 
-    fn check(&self) -> Result<(), Refusal> {
-        Figure::check(&self.figures())
+    fn own() -> Own {
+        Own { first: 0, count: 0 }
     }
 }

@@ -1,8 +1,10 @@
 // The sheet of rate STS.
-ghost use Rattle.std.specs.Prelude.{◌≡◌};
-ghost use Rattle.rates.specs.Sts.{sts_2009, sts_figures};
+ghost use Rattle.std.specs.Prelude.{◌≡◌, refl};
+ghost use Rattle.tariff.specs.Sheets.{values_of};
+ghost use Rattle.tariff.proofs.DraftFigures.{inverse};
+ghost use Rattle.rates.specs.Sts.{sts_2009, sts_draft, sts_figures, sts_from_figures, sts_own};
 
-use tariff::{Draft, Figure, Refusal, Sealed};
+use tariff::{Draft, Figure, Figures, Own, Sealed};
 
 // The published figure; loss factor and rating are the customer's own.
 pub const STS_2009_UNIT_CONNECTION: i64 = 25_900;
@@ -30,22 +32,37 @@ impl StsDraft {
             unit_connection: STS_2009_UNIT_CONNECTION,
         }
     }
-
-    fn figures(&self) -> [Figure; 3]
-        ensures { result ≡ sts_figures self.now }
-    {
-        [
-            Figure::between(-10_000, 10_000, self.loss_factor),
-            Figure::between(0, 1_000_000, self.unit_rating),
-            Figure::between(0, 10_000_000, self.unit_connection),
-        ]
-    }
 }
 
 impl Draft for StsDraft {
-    ghost listed = { sts_figures };
+    ghost figures = { sts_figures };
 
-    fn check(&self) -> Result<(), Refusal> {
-        Figure::check(&self.figures())
+    ghost from_figures = { sts_from_figures };
+
+    ghost own = { sts_own };
+
+    ghost inverse = { inverse 3 sts_draft (λ draft. values_of (sts_figures draft)) (λ _. refl) (λ _. refl) (λ _. refl) };
+
+    fn figures(&self) -> Figures {
+        Figures::new(&[
+            Figure::between(-10_000, 10_000, self.loss_factor),
+            Figure::between(0, 1_000_000, self.unit_rating),
+            Figure::between(0, 10_000_000, self.unit_connection),
+        ])
+    }
+
+    fn from_figures(values: &[i64]) -> Option<StsDraft> {
+        match *values {
+            [loss_factor, unit_rating, unit_connection] => Some(StsDraft {
+                loss_factor,
+                unit_rating,
+                unit_connection,
+            }),
+            _ => None,
+        }
+    }
+
+    fn own() -> Own {
+        Own { first: 0, count: 2 }
     }
 }

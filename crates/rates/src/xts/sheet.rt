@@ -1,8 +1,10 @@
 // The sheet of rate XTS.
-ghost use Rattle.std.specs.Prelude.{◌≡◌};
-ghost use Rattle.rates.specs.Xts.{xts_2007, xts_figures};
+ghost use Rattle.std.specs.Prelude.{◌≡◌, refl};
+ghost use Rattle.tariff.specs.Sheets.{no_own, values_of};
+ghost use Rattle.tariff.proofs.DraftFigures.{inverse};
+ghost use Rattle.rates.specs.Xts.{xts_2007, xts_draft, xts_figures, xts_from_figures};
 
-use tariff::{Draft, Figure, Refusal, Sealed};
+use tariff::{Draft, Figure, Figures, Own, Sealed};
 
 // The figures of a sheet that is still being filled in, any numbers. Cents per MWh, and
 // hundredths of a percent of the pool price (operating_reserve).
@@ -29,23 +31,44 @@ impl XtsDraft {
     {
         XTS_2007
     }
+}
 
-    fn figures(&self) -> [Figure; 4]
-        ensures { result ≡ xts_figures self.now }
-    {
-        [
+impl Draft for XtsDraft {
+    ghost figures = { xts_figures };
+
+    ghost from_figures = { xts_from_figures };
+
+    ghost own = { no_own };
+
+    ghost inverse = { inverse 4 xts_draft (λ draft. values_of (xts_figures draft)) (λ _. refl) (λ _. refl) (λ _. refl) };
+
+    fn figures(&self) -> Figures {
+        Figures::new(&[
             Figure::between(0, 100_000, self.interconnection),
             Figure::between(0, 10_000, self.operating_reserve),
             Figure::between(0, 100_000, self.voltage_control),
             Figure::between(0, 100_000, self.other_support),
-        ]
+        ])
     }
-}
 
-impl Draft for XtsDraft {
-    ghost listed = { xts_figures };
+    fn from_figures(values: &[i64]) -> Option<XtsDraft> {
+        match *values {
+            [
+                interconnection,
+                operating_reserve,
+                voltage_control,
+                other_support,
+            ] => Some(XtsDraft {
+                interconnection,
+                operating_reserve,
+                voltage_control,
+                other_support,
+            }),
+            _ => None,
+        }
+    }
 
-    fn check(&self) -> Result<(), Refusal> {
-        Figure::check(&self.figures())
+    fn own() -> Own {
+        Own { first: 0, count: 0 }
     }
 }

@@ -1,8 +1,10 @@
 // The sheet of a Primary Service Credit.
-ghost use Rattle.std.specs.Prelude.{◌≡◌};
-ghost use Rattle.riders.specs.Credit.{credit_figures, psc_2009};
+ghost use Rattle.std.specs.Prelude.{◌≡◌, refl};
+ghost use Rattle.tariff.specs.Sheets.{values_of};
+ghost use Rattle.tariff.proofs.DraftFigures.{inverse};
+ghost use Rattle.riders.specs.Credit.{credit_draft, credit_figures, credit_from_figures, credit_own, psc_2009};
 
-use tariff::{Draft, Figure, Refusal, Sealed};
+use tariff::{Draft, Figure, Figures, Own, Sealed};
 
 // The rider's number and its figures, any numbers: cents per MW in each band of billing
 // capacity, and cents per month.
@@ -38,25 +40,43 @@ impl CreditDraft {
         draft.number = number;
         draft
     }
+}
 
-    fn figures(&self) -> [Figure; 6]
-        ensures { result ≡ credit_figures self.now }
-    {
-        [
+impl Draft for CreditDraft {
+    ghost figures = { credit_figures };
+
+    ghost from_figures = { credit_from_figures };
+
+    ghost own = { credit_own };
+
+    ghost inverse = { inverse 6 credit_draft (λ draft. values_of (credit_figures draft)) (λ _. refl) (λ _. refl) (λ _. refl) };
+
+    fn figures(&self) -> Figures {
+        Figures::new(&[
             Figure::between(1, 65_535, self.number),
             Figure::between(0, 500_000, self.first),
             Figure::between(0, 500_000, self.second),
             Figure::between(0, 500_000, self.third),
             Figure::between(0, 500_000, self.last),
             Figure::between(0, 10_000_000, self.fixed),
-        ]
+        ])
     }
-}
 
-impl Draft for CreditDraft {
-    ghost listed = { credit_figures };
+    fn from_figures(values: &[i64]) -> Option<CreditDraft> {
+        match *values {
+            [number, first, second, third, last, fixed] => Some(CreditDraft {
+                number,
+                first,
+                second,
+                third,
+                last,
+                fixed,
+            }),
+            _ => None,
+        }
+    }
 
-    fn check(&self) -> Result<(), Refusal> {
-        Figure::check(&self.figures())
+    fn own() -> Own {
+        Own { first: 0, count: 1 }
     }
 }

@@ -1,8 +1,10 @@
 // The sheet of an energy rider.
-ghost use Rattle.std.specs.Prelude.{◌≡◌};
-ghost use Rattle.riders.specs.Energy.{energy_figures};
+ghost use Rattle.std.specs.Prelude.{◌≡◌, refl};
+ghost use Rattle.tariff.specs.Sheets.{values_of};
+ghost use Rattle.tariff.proofs.DraftFigures.{inverse};
+ghost use Rattle.riders.specs.Energy.{energy_draft, energy_figures, energy_from_figures, energy_own};
 
-use tariff::{Draft, Figure, Refusal, Sealed};
+use tariff::{Draft, Figure, Figures, Own, Sealed};
 
 // The rider's number and its rate in cents per MWh, any numbers.
 #[derive(Clone, Copy)]
@@ -13,21 +15,30 @@ pub struct EnergyDraft {
 
 pub type EnergySheet = Sealed<EnergyDraft>;
 
-impl EnergyDraft {
-    fn figures(&self) -> [Figure; 2]
-        ensures { result ≡ energy_figures self.now }
-    {
-        [
+impl Draft for EnergyDraft {
+    ghost figures = { energy_figures };
+
+    ghost from_figures = { energy_from_figures };
+
+    ghost own = { energy_own };
+
+    ghost inverse = { inverse 2 energy_draft (λ draft. values_of (energy_figures draft)) (λ _. refl) (λ _. refl) (λ _. refl) };
+
+    fn figures(&self) -> Figures {
+        Figures::new(&[
             Figure::between(1, 65_535, self.number),
             Figure::between(-100_000, 100_000, self.rate),
-        ]
+        ])
     }
-}
 
-impl Draft for EnergyDraft {
-    ghost listed = { energy_figures };
+    fn from_figures(values: &[i64]) -> Option<EnergyDraft> {
+        match *values {
+            [number, rate] => Some(EnergyDraft { number, rate }),
+            _ => None,
+        }
+    }
 
-    fn check(&self) -> Result<(), Refusal> {
-        Figure::check(&self.figures())
+    fn own() -> Own {
+        Own { first: 0, count: 2 }
     }
 }

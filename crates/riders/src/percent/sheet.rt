@@ -1,8 +1,10 @@
 // The sheet of a percent rider.
-ghost use Rattle.std.specs.Prelude.{◌≡◌};
-ghost use Rattle.riders.specs.Percent.{percent_figures};
+ghost use Rattle.std.specs.Prelude.{◌≡◌, refl};
+ghost use Rattle.tariff.specs.Sheets.{values_of};
+ghost use Rattle.tariff.proofs.DraftFigures.{inverse};
+ghost use Rattle.riders.specs.Percent.{percent_draft, percent_figures, percent_from_figures, percent_own};
 
-use tariff::{Draft, Figure, Refusal, Sealed};
+use tariff::{Draft, Figure, Figures, Own, Sealed};
 
 // The rider's number and its factor in hundredths of a percent, any numbers.
 #[derive(Clone, Copy)]
@@ -13,21 +15,30 @@ pub struct PercentDraft {
 
 pub type PercentSheet = Sealed<PercentDraft>;
 
-impl PercentDraft {
-    fn figures(&self) -> [Figure; 2]
-        ensures { result ≡ percent_figures self.now }
-    {
-        [
+impl Draft for PercentDraft {
+    ghost figures = { percent_figures };
+
+    ghost from_figures = { percent_from_figures };
+
+    ghost own = { percent_own };
+
+    ghost inverse = { inverse 2 percent_draft (λ draft. values_of (percent_figures draft)) (λ _. refl) (λ _. refl) (λ _. refl) };
+
+    fn figures(&self) -> Figures {
+        Figures::new(&[
             Figure::between(1, 65_535, self.number),
             Figure::between(-10_000, 10_000, self.factor),
-        ]
+        ])
     }
-}
 
-impl Draft for PercentDraft {
-    ghost listed = { percent_figures };
+    fn from_figures(values: &[i64]) -> Option<PercentDraft> {
+        match *values {
+            [number, factor] => Some(PercentDraft { number, factor }),
+            _ => None,
+        }
+    }
 
-    fn check(&self) -> Result<(), Refusal> {
-        Figure::check(&self.figures())
+    fn own() -> Own {
+        Own { first: 0, count: 2 }
     }
 }

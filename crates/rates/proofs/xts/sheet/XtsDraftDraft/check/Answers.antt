@@ -1,5 +1,0 @@
-use Rattle.tariff.proofs.Figures.{checked}
-use Rattle.rates.proofs.xts.sheet.XtsDraftDraft.check.Goals as goal
-
-pub returns : goal.returns
-returns c = checked c.check.result c.figures.ensures c.check.ensures

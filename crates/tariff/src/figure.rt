@@ -1,0 +1,29 @@
+ghost use Rattle.std.specs.Prelude.{◌≡◌};
+ghost use Rattle.tariff.specs.Sheets.{FigureWithin};
+
+use crate::limits::WithinLimits;
+
+/// A figure of a sheet in the unit of the sheet, with the least and the most that it can be sealed at.
+#[derive(Clone, Copy, PartialEq, Eq, Debug)]
+pub struct Figure {
+    pub value: i64,
+    pub low: i64,
+    pub high: i64,
+}
+
+impl WithinLimits for Figure {
+    ghost within = { FigureWithin };
+
+    fn is_within(&self) -> bool {
+        self.low <= self.value && self.value <= self.high
+    }
+}
+
+impl Figure {
+    /// A figure that can be sealed from `low` to `high`, both included.
+    pub fn between(low: i64, high: i64, value: i64) -> Figure
+        ensures { result ≡ record { value = value; low = low; high = high } }
+    {
+        Figure { value, low, high }
+    }
+}
