@@ -11,7 +11,7 @@ use Rattle.std.proofs.lemmas.Grind.{common_steps, flat_map-append}
 use Rattle.std.proofs.lemmas.Int.{ints}
 use Rattle.std.proofs.lemmas.List.{map-append}
 use Rattle.std.proofs.lemmas.Str.Parse.{digit_from_value, without_leading_plus_none}
-use Rattle.store.specs.declared.reading.Reading.{Reading}
+use Rattle.store.specs.declared.post.Reading.{Reading}
 use Rattle.journal.specs.Tokens.{cut_of, figure_of, number_of, reading_between, reading_of, reading_text, values_of}
 use Rattle.journal.specs.Words.{are_words, is_plain, is_word, words_text}
 use Rattle.journal.proofs.Parsing.{parse_figure, parse_number}

@@ -1,12 +1,7 @@
 -- A call written as a line: the words that write it, and the text that they make.
-use Rattle.std.specs.Prelude.{◌≡◌, ℕ, ◌++◌, true, List, [], ◌∷◌, map, ℤ, codes, decimal}
-use Rattle.std.specs.Fmt.{signed_decimal}
-use Rattle.rates.specs.declared.dts.sheet.DtsDraft.{DtsDraft}
-use Rattle.piles.specs.declared.rate.RateDraft.{RateDraft}
-use Rattle.piles.specs.declared.rate.RateDraft.TheVariants.{Dts, Gts, Xts, Dos, Sts}
-use Rattle.piles.specs.declared.rider.RiderDraft.{RiderDraft}
-use Rattle.piles.specs.declared.rider.RiderDraft.TheVariants.{Energy, Percent, Credit}
+use Rattle.std.specs.Prelude.{◌≡◌, ℕ, ◌++◌, true, List, [], ◌∷◌, map, decimal}
 use Rattle.store.specs.declared.post.Post.TheVariants.{Reading as AReading, Price as APrice, Scheduled as AScheduled}
+use Rattle.journal.specs.Drafts.{rate_words, rider_words}
 use Rattle.journal.specs.PostKinds.{kind_word}
 use Rattle.journal.specs.Tokens.{reading_text}
 use Rattle.journal.specs.Verbs.{verb_word}
@@ -16,32 +11,14 @@ use Rattle.journal.specs.declared.call.Call.TheVariants.{Memory as TheMemory, Ra
 use Rattle.journal.specs.declared.verb.Verb.{Verb}
 use Rattle.journal.specs.declared.verb.Verb.TheVariants.{Memory, Rate, Rider, Open, Start, Reading, Readings, Day, Price, Prices, Schedule, Schedules, Load, Bill, TrueUp, Finalise, Due, Total, Text, Ledger, Statement}
 
-abbrev pub figures_text : List ℤ → List (List ℕ)
-figures_text figures = map signed_decimal figures
-
-abbrev pub dts_figures : DtsDraft → List ℤ
-dts_figures d = d.system_demand ∷ d.system_energy ∷ d.delivery_demand ∷ d.delivery_fixed ∷ d.operating_reserve ∷ d.voltage_control ∷ d.other_support ∷ d.power_factor ∷ []
-
-abbrev pub rate_text : RateDraft → List (List ℕ)
-rate_text (Dts d) = codes "dts" ∷ figures_text (dts_figures d)
-rate_text (Gts d) = codes "gts" ∷ figures_text (dts_figures d)
-rate_text (Xts d) = codes "xts" ∷ figures_text (d.interconnection ∷ d.operating_reserve ∷ d.voltage_control ∷ d.other_support ∷ [])
-rate_text (Dos d) = codes "dos" ∷ figures_text (d.opportunity_capacity ∷ d.loss_factor ∷ d.energy ∷ d.transaction_fee ∷ [])
-rate_text (Sts d) = codes "sts" ∷ figures_text (d.loss_factor ∷ d.unit_rating ∷ d.unit_connection ∷ [])
-
-abbrev pub rider_text : RiderDraft → List (List ℕ)
-rider_text (Energy d) = codes "energy" ∷ figures_text (d.number ∷ d.rate ∷ [])
-rider_text (Percent d) = codes "percent" ∷ figures_text (d.number ∷ d.factor ∷ [])
-rider_text (Credit d) = codes "psc" ∷ figures_text (d.number ∷ d.first ∷ d.second ∷ d.third ∷ d.last ∷ d.fixed ∷ [])
-
 abbrev pub numbers_text : List ℕ → List (List ℕ)
 numbers_text numbers = map decimal numbers
 
 -- the verb of a call, and the words after it
 abbrev pub parts_of : Call → Verb × List (List ℕ)
 parts_of (TheMemory months entries) = (Memory, numbers_text (months ∷ entries ∷ []))
-parts_of (TheRate draft) = (Rate, rate_text draft)
-parts_of (TheRider draft) = (Rider, rider_text draft)
+parts_of (TheRate draft) = (Rate, rate_words draft)
+parts_of (TheRider draft) = (Rider, rider_words draft)
 parts_of (TheOpen code contract substation carried) = (Open, code.now ∷ numbers_text (contract ∷ substation ∷ carried.items))
 parts_of (TheStart days) = (Start, numbers_text (days ∷ []))
 parts_of (ThePost month place (AReading reading)) = (Reading, numbers_text (month ∷ place ∷ reading.kw ∷ reading.kva ∷ []))

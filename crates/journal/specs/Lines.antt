@@ -1,12 +1,13 @@
 -- The call that the words of a line are.
 use Rattle.std.specs.Prelude.{◌≡◌, ℕ, List, [], ◌∷◌, Option, Some, None, Result, Ok, Err}
 use Rattle.std.specs.Option.{option_map}
-use Rattle.store.specs.declared.reading.Reading.{Reading as TheReading}
-use Rattle.journal.specs.Drafts.{draft_by, rate_of, rider_of}
+use Rattle.store.specs.declared.post.Reading.{Reading as TheReading}
+use Rattle.journal.specs.Drafts.{rate_of, rider_of}
 use Rattle.journal.specs.Numbers.{call_of_numbers}
 use Rattle.journal.specs.PostKinds.{kind_named}
-use Rattle.journal.specs.Tokens.{◌>>=◌, number_of, reading_of, values_of}
+use Rattle.journal.specs.Tokens.{number_of, reading_of, values_of}
 use Rattle.journal.specs.Verbs.{verb_named}
+use Rattle.journal.specs.Words.{◌>>=◌, first_word}
 use Rattle.journal.specs.declared.call.Call.{Call}
 use Rattle.journal.specs.declared.call.Call.TheVariants.{Rate as TheRate, Rider as TheRider, Open as TheOpen, PostDay as ThePostDay, Load as TheLoad}
 use Rattle.journal.specs.declared.parse_error.ParseError.{ParseError}
@@ -27,11 +28,6 @@ value_of (TheOpen code contract substation carried) = opens code.now contract su
 value_of (ThePostDay month day code readings) = posts_day month day code.now readings.items
 value_of (TheLoad kind month file) = loads kind month file.now
 value_of call = plain call
-
--- the first word, and the words after it
-abbrev pub first_word : List (List ℕ) → Option (List ℕ × List (List ℕ))
-first_word [] = None
-first_word (word ∷ words) = Some (word, words)
 
 abbrev pub first_number : List (List ℕ) → Option (ℕ × List (List ℕ))
 first_number words = do
@@ -78,8 +74,8 @@ by_numbers verb words = do
 
 -- the call of a verb and the words after it
 abbrev pub call_of : Verb → List (List ℕ) → Option CallValue
-call_of Rate words = option_map (λ draft. plain (TheRate draft)) (draft_by rate_of words)
-call_of Rider words = option_map (λ draft. plain (TheRider draft)) (draft_by rider_of words)
+call_of Rate words = option_map (λ draft. plain (TheRate draft)) (rate_of words)
+call_of Rider words = option_map (λ draft. plain (TheRider draft)) (rider_of words)
 call_of Open words = open_of words
 call_of Day words = post_day_of words
 call_of Load words = load_of words

@@ -3,7 +3,8 @@ use Rattle.std.specs.Prelude.{ℕ, if◌then◌else◌, List, [], ◌∷◌, Opt
 use Rattle.std.specs.Option.{option_map}
 use Rattle.store.specs.declared.post.Post.{Post}
 use Rattle.store.specs.declared.post.Post.TheVariants.{Reading as TheReading, Price as ThePrice, Scheduled as TheScheduled}
-use Rattle.journal.specs.Tokens.{◌>>=◌, cut_of, number_of, reading_between}
+use Rattle.journal.specs.Tokens.{cut_of, number_of, reading_between}
+use Rattle.journal.specs.Words.{◌>>=◌}
 use Rattle.journal.specs.declared.parse_error.ParseError.{ParseError}
 use Rattle.journal.specs.declared.parse_error.ParseError.TheVariants.{NoPost}
 use Rattle.journal.specs.declared.post_kind.PostKind.{PostKind}

@@ -4,7 +4,8 @@ use Rattle.std.specs.List.{after_first, before_first, position_or_len}
 use Rattle.std.specs.Option.{option_and_then, option_map}
 use Rattle.std.specs.Str.{all_ascii_digits}
 use Rattle.std.specs.Str.Parse.{digits_value, signed_digits_value, starts_with_minus, without_leading_plus, without_leading_sign}
-use Rattle.store.specs.declared.reading.Reading.{Reading}
+use Rattle.store.specs.declared.post.Reading.{Reading}
+use Rattle.journal.specs.Words.{◌>>=◌}
 
 -- digits, one or more
 abbrev pub are_digits : List ℕ → Bool
@@ -25,11 +26,6 @@ unfoldable pub figure_of : List ℕ → Option ℤ
 figure_of word =
     let digits = without_leading_sign word in
     if are_digits digits && nat_le (digits_value 10 digits) (most_figure word) then Some (signed_digits_value 10 word) else None
-
-infixl 10 ◌>>=◌
-abbrev pub ◌>>=◌ : {A B : Type 0} → Option A → (A → Option B) → Option B
-None >>= f = None
-(Some x) >>= f = f x
 
 -- the texts before and after the first of this byte, where there is one
 abbrev pub cut_of : ℕ → List ℕ → Option (List ℕ × List ℕ)

@@ -1,5 +1,5 @@
 -- The words of a line: what stands between its spaces, up to its comment.
-use Rattle.std.specs.Prelude.{ℕ, ◌==◌, ◌&&◌, Bool, true, not, List, [], ◌∷◌, length, nat_lt}
+use Rattle.std.specs.Prelude.{ℕ, ◌==◌, ◌&&◌, Bool, true, not, List, [], ◌∷◌, length, Option, Some, None, nat_lt}
 use Rattle.std.specs.List.{before_first, filter, flat_map, slice_split}
 
 -- a line before the first `#`, or all of it
@@ -26,3 +26,13 @@ is_word text = nat_lt 0 (length text) && is_plain text
 abbrev pub are_words : List (List ℕ) → Bool
 are_words [] = true
 are_words (word ∷ words) = is_word word && are_words words
+
+-- the first word, and the words after it
+abbrev pub first_word : List (List ℕ) → Option (List ℕ × List (List ℕ))
+first_word [] = None
+first_word (word ∷ words) = Some (word, words)
+
+infixl 10 ◌>>=◌
+abbrev pub ◌>>=◌ : {A B : Type 0} → Option A → (A → Option B) → Option B
+None >>= f = None
+(Some x) >>= f = f x

@@ -5,14 +5,14 @@ ghost use Rattle.journal.specs.Lines.{Gives, call_of, first_number, load_of, ope
 ghost use Rattle.journal.specs.Words.{uncommented, words_of};
 
 use crate::call::Call;
-use crate::drafts::draft_of;
+use crate::drafts::parse_draft;
 use crate::numbers::call_of_numbers;
 use crate::parse_error::ParseError;
 use crate::post_kind::PostKind;
 use crate::token::{Token, parse_all};
 use crate::verb::Verb;
 use crate::words::{next_word, uncommented};
-use piles::{RateDraft, RiderDraft};
+use piles::{RateKind, RiderKind};
 use std::alloc::{AllocError, Global};
 use store::Reading;
 
@@ -89,11 +89,11 @@ fn call_of(alloc: Global, verb: Verb, text: &str) -> Result<Option<Call<'_>>, Al
     ensures { IfOk result (λ call. option_map value_of call ≡ call_of verb (words_of text.now)) }
 {
     match verb {
-        Verb::Rate => match draft_of::<RateDraft>(alloc, text)? {
+        Verb::Rate => match parse_draft::<RateKind>(alloc, text)? {
             Some(draft) => Ok(Some(Call::Rate(draft))),
             None => Ok(None),
         },
-        Verb::Rider => match draft_of::<RiderDraft>(alloc, text)? {
+        Verb::Rider => match parse_draft::<RiderKind>(alloc, text)? {
             Some(draft) => Ok(Some(Call::Rider(draft))),
             None => Ok(None),
         },
