@@ -23,7 +23,8 @@ no_space (byte ∷ bytes) plain (suc k) d here = no_space bytes (and_both _ _ pl
 no_hash : (word : List ℕ) → is_plain word ≡ true → none_of is_hash word
 unfolding none_of
 no_hash [] plain = tt
-no_hash (byte ∷ bytes) plain = (not_true _ (and_both _ _ (and_both _ _ plain).0).1, no_hash bytes (and_both _ _ plain).1)
+no_hash (byte ∷ bytes) plain =
+    (not_true _ (and_both _ _ (and_both _ _ plain).0).1, no_hash bytes (and_both _ _ plain).1)
 
 words_text_no_hash : (words : List (List ℕ)) → are_words words ≡ true → none_of is_hash (words_text words)
 unfolding none_of
@@ -32,17 +33,21 @@ words_text_no_hash (word ∷ words) all =
     let (first, others) = and_both _ _ all in
     (refl, none_append is_hash word (words_text words) (no_hash word (and_both _ _ first).1) (words_text_no_hash words others))
 
-pub text_uncommented : (word : List ℕ) (words : List (List ℕ)) → is_word word ≡ true → are_words words ≡ true → uncommented (word ++ words_text words) ≡ word ++ words_text words
+pub text_uncommented : (word : List ℕ) (words : List (List ℕ)) → is_word word ≡ true
+    → are_words words ≡ true → uncommented (word ++ words_text words) ≡ word ++ words_text words
 text_uncommented word words first all =
     let text = word ++ words_text words in
-    let none = none_append is_hash word (words_text words) (no_hash word (and_both _ _ first).1) (words_text_no_hash words all) in
+    let none =
+    none_append is_hash word (words_text words) (no_hash word (and_both _ _ first).1) (words_text_no_hash words all) in
     ap (λ at. take at text) (first_all is_hash text none) ∙ take_all (length text) text (omega arith)
 
-pub text_words : (word : List ℕ) (words : List (List ℕ)) → is_word word ≡ true → are_words words ≡ true → words_of (word ++ words_text words) ≡ word ∷ words
+pub text_words : (word : List ℕ) (words : List (List ℕ)) → is_word word ≡ true → are_words words ≡ true
+    → words_of (word ++ words_text words) ≡ word ∷ words
 text_words word [] first all =
     let (some, plain) = and_both _ _ first in
     ap words_of (append-nil word) ∙ one_word word (ltb-true 0 (length word) some) (no_space word plain)
 text_words word (next ∷ words) first all =
     let (some, plain) = and_both _ _ first in
     let (second, others) = and_both _ _ all in
-    word_then word (next ++ words_text words) (ltb-true 0 (length word) some) (no_space word plain) ∙ ap (λ more. word ∷ more) (text_words next words second others)
+    word_then word (next ++ words_text words) (ltb-true 0 (length word) some) (no_space word plain)
+    ∙ ap (λ more. word ∷ more) (text_words next words second others)

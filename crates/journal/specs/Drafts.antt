@@ -59,7 +59,8 @@ complete_figures own published given =
     else given
 
 -- the draft that words name: the word of a kind, and figures
-abbrev pub draft_of : {K D : Type 0} → (List ℕ → Option K) → (K → OwnPlaces) → (K → D) → (D → FigureList) → (K → List ℤ → Option D) → List (List ℕ) → Option D
+abbrev pub draft_of : {K D : Type 0} → (List ℕ → Option K) → (K → OwnPlaces) → (K → D) → (D → FigureList)
+    → (K → List ℤ → Option D) → List (List ℕ) → Option D
 draft_of named own published figures from_figures words = do
   name ← first_word words
   kind ← named name.0
@@ -67,7 +68,8 @@ draft_of named own published figures from_figures words = do
   from_figures kind (sheet_order (own kind) (complete_figures (own kind) (figure_values (figures (published kind))) given))
 
 -- the words that write a draft
-abbrev pub draft_words : {K D : Type 0} → (K → List ℕ) → (D → K) → (K → OwnPlaces) → (D → FigureList) → D → List (List ℕ)
+abbrev pub draft_words : {K D : Type 0} → (K → List ℕ) → (D → K) → (K → OwnPlaces) → (D → FigureList) → D
+    → List (List ℕ)
 draft_words word kind_of own figures draft =
     word (kind_of draft) ∷ map signed_decimal (line_order (own (kind_of draft)) (figure_values (figures draft)))
 

@@ -19,15 +19,21 @@ abbrev pub parts_of : Call → Verb × List (List ℕ)
 parts_of (TheMemory months entries) = (Memory, numbers_text (months ∷ entries ∷ []))
 parts_of (TheRate draft) = (Rate, rate_words draft)
 parts_of (TheRider draft) = (Rider, rider_words draft)
-parts_of (TheOpen code contract substation carried) = (Open, code.now ∷ numbers_text (contract ∷ substation ∷ carried.items))
+parts_of (TheOpen code contract substation carried) =
+    (Open, code.now ∷ numbers_text (contract ∷ substation ∷ carried.items))
 parts_of (TheStart days) = (Start, numbers_text (days ∷ []))
-parts_of (ThePost month place (AReading reading)) = (Reading, numbers_text (month ∷ place ∷ reading.kw ∷ reading.kva ∷ []))
+parts_of (ThePost month place (AReading reading)) =
+    (Reading, numbers_text (month ∷ place ∷ reading.kw ∷ reading.kva ∷ []))
 parts_of (ThePost month place (APrice cents)) = (Price, numbers_text (month ∷ place ∷ cents ∷ []))
 parts_of (ThePost month place (AScheduled kw)) = (Schedule, numbers_text (month ∷ place ∷ kw ∷ []))
-parts_of (ThePostRange month first last (AReading reading)) = (Readings, numbers_text (month ∷ first ∷ last ∷ reading.kw ∷ reading.kva ∷ []))
-parts_of (ThePostRange month first last (APrice cents)) = (Prices, numbers_text (month ∷ first ∷ last ∷ cents ∷ []))
-parts_of (ThePostRange month first last (AScheduled kw)) = (Schedules, numbers_text (month ∷ first ∷ last ∷ kw ∷ []))
-parts_of (ThePostDay month day code readings) = (Day, decimal month ∷ decimal day ∷ code.now ∷ map reading_text readings.items)
+parts_of (ThePostRange month first last (AReading reading)) =
+    (Readings, numbers_text (month ∷ first ∷ last ∷ reading.kw ∷ reading.kva ∷ []))
+parts_of (ThePostRange month first last (APrice cents)) =
+    (Prices, numbers_text (month ∷ first ∷ last ∷ cents ∷ []))
+parts_of (ThePostRange month first last (AScheduled kw)) =
+    (Schedules, numbers_text (month ∷ first ∷ last ∷ kw ∷ []))
+parts_of (ThePostDay month day code readings) =
+    (Day, decimal month ∷ decimal day ∷ code.now ∷ map reading_text readings.items)
 parts_of (TheLoad kind month file) = (Load, kind_word kind ∷ decimal month ∷ file.now ∷ [])
 parts_of (TheBill month) = (Bill, numbers_text (month ∷ []))
 parts_of (TheTrueUp month) = (TrueUp, numbers_text (month ∷ []))

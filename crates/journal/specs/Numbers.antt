@@ -10,12 +10,16 @@ use Rattle.journal.specs.declared.verb.Verb.TheVariants.{Memory, Start, Reading,
 abbrev pub call_of_numbers : Verb → List ℕ → Option Call
 call_of_numbers Memory (months ∷ entries ∷ []) = Some (TheMemory months entries)
 call_of_numbers Start (days ∷ []) = Some (TheStart days)
-call_of_numbers Reading (month ∷ place ∷ kw ∷ kva ∷ []) = Some (ThePost month place (AReading (record { kw = kw; kva = kva })))
+call_of_numbers Reading (month ∷ place ∷ kw ∷ kva ∷ []) =
+    Some (ThePost month place (AReading (record { kw = kw; kva = kva })))
 call_of_numbers Price (month ∷ place ∷ cents ∷ []) = Some (ThePost month place (APrice cents))
 call_of_numbers Schedule (month ∷ place ∷ kw ∷ []) = Some (ThePost month place (AScheduled kw))
-call_of_numbers Readings (month ∷ first ∷ last ∷ kw ∷ kva ∷ []) = Some (ThePostRange month first last (AReading (record { kw = kw; kva = kva })))
-call_of_numbers Prices (month ∷ first ∷ last ∷ cents ∷ []) = Some (ThePostRange month first last (APrice cents))
-call_of_numbers Schedules (month ∷ first ∷ last ∷ kw ∷ []) = Some (ThePostRange month first last (AScheduled kw))
+call_of_numbers Readings (month ∷ first ∷ last ∷ kw ∷ kva ∷ []) =
+    Some (ThePostRange month first last (AReading (record { kw = kw; kva = kva })))
+call_of_numbers Prices (month ∷ first ∷ last ∷ cents ∷ []) =
+    Some (ThePostRange month first last (APrice cents))
+call_of_numbers Schedules (month ∷ first ∷ last ∷ kw ∷ []) =
+    Some (ThePostRange month first last (AScheduled kw))
 call_of_numbers Bill (month ∷ []) = Some (TheBill month)
 call_of_numbers TrueUp (month ∷ []) = Some (TheTrueUp month)
 call_of_numbers Finalise (month ∷ []) = Some (TheFinalise month)

@@ -51,4 +51,5 @@ reading_text reading = decimal reading.kw ++ (47 ∷ decimal reading.kva)
 -- what each word writes down, where all of them are such tokens
 abbrev pub values_of : {X : Type 0} → (List ℕ → Option X) → List (List ℕ) → Option (List X)
 values_of parse [] = Some []
-values_of parse (word ∷ words) = option_and_then (λ item. option_map (λ items. item ∷ items) (values_of parse words)) (parse word)
+values_of parse (word ∷ words) =
+    option_and_then (λ item. option_map (λ items. item ∷ items) (values_of parse words)) (parse word)

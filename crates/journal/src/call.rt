@@ -1,10 +1,14 @@
 // The calls that a line can write down.
-ghost use Rattle.std.specs.Prelude.{◌≡◌};
-ghost use Rattle.journal.specs.LineText.{parts_of};
+ghost use Rattle.std.specs.Prelude.{◌≡◌, Some, Ok, IfOk, string_bytes};
+ghost use Rattle.journal.specs.LineText.{IsWritable, line_text, parts_of};
+ghost use Rattle.journal.specs.Lines.{parse_result, value_of};
+ghost use Rattle.journal.specs.Words.{uncommented, words_of};
 
+use crate::line_text::write_words;
 use crate::post_kind::PostKind;
 use crate::verb::Verb;
 use piles::{RateDraft, RiderDraft};
+use std::alloc::{AllocError, Global};
 use store::{Post, Reading};
 
 /// A call, with its numbers as the line has them: whether they lie within their limits is for
@@ -133,5 +137,18 @@ impl Call<'_> {
             Call::Ledger => Verb::Ledger,
             Call::Statement { .. } => Verb::Statement,
         }
+    }
+
+    /// The line that writes it down. It reads as the call again, where the texts that the call names
+    /// are words: without a space and without `#`.
+    pub fn write(&self, alloc: Global) -> Result<String, AllocError>
+        ensures text { IfOk result (λ line. string_bytes line ≡ line_text self.now) }
+        ensures again { IfOk result (λ line. IsWritable self.now →
+            parse_result (words_of (uncommented (string_bytes line)))
+            ≡ Ok (Some (value_of self.now))) }
+    {
+        let mut line = String::from_str(alloc, self.verb().word())?;
+        write_words(alloc, &mut line, self)?;
+        Ok(line)
     }
 }

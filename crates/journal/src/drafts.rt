@@ -1,8 +1,7 @@
 // Rates and riders in words: the kind of a sheet, and its figures.
-ghost use Rattle.std.specs.Prelude.{◌≡◌, ◌+◌, ◌++◌, ◌≤◌, ℕ, List, ℤ, Option, Some, true, length, map, IfOk, OnOk, string_bytes};
-ghost use Rattle.std.specs.Fmt.{signed_decimal};
-ghost use Rattle.tariff.specs.Sheets.{OwnPlaces, figure_list, values_of};
 ghost use Rattle.std.proofs.Common.{rules};
+ghost use Rattle.std.specs.Prelude.{◌≡◌, ◌+◌, ◌++◌, ◌≤◌, ℕ, List, ℤ, Option, Some, true, length, IfOk, OnOk, string_bytes};
+ghost use Rattle.tariff.specs.Sheets.{figure_list, values_of};
 ghost use Rattle.journal.specs.Drafts.{complete_figures, draft_of, draft_words, line_order, rate_named, rate_word, rider_named, rider_word};
 ghost use Rattle.journal.specs.Words.{are_words, is_word, words_of, words_text};
 
@@ -29,7 +28,8 @@ pub(crate) trait NamedKind: SheetKind {
 
     // the customer's own figures are among those of the sheet
     ghost own_within: { (kind : Self) →
-        (Self.own kind).first + (Self.own kind).count ≤ length (Self.figures (Self.published kind)) };
+        (Self.own kind).first + (Self.own kind).count
+        ≤ length (Self.figures (Self.published kind)) };
 }
 
 impl NamedKind for RateKind {
@@ -158,8 +158,9 @@ pub(crate) fn write_draft<K: NamedKind>(
     line: &mut String,
     draft: &K::Draft,
 ) -> Result<(), AllocError>
-    ensures written { OnOk result (string_bytes line.new ≡
-        string_bytes line.old ++ words_text (draft_words K.word K.kind_of K.own K.figures draft.now)) }
+    ensures written { OnOk result (
+        string_bytes line.new ≡ string_bytes line.old
+        ++ words_text (draft_words K.word K.kind_of K.own K.figures draft.now)) }
     ensures words { OnOk result (
         are_words (draft_words K.word K.kind_of K.own K.figures draft.now) ≡ true) }
     ensures again { OnOk result (

@@ -1,8 +1,8 @@
-// A call written as a line.
-ghost use Rattle.std.specs.Prelude.{◌≡◌, ◌++◌, true, [], ◌∷◌, Some, Ok, IfOk, OnOk, string_bytes};
-ghost use Rattle.journal.specs.LineText.{IsWritable, line_text, parts_of};
-ghost use Rattle.journal.specs.Lines.{call_of, parse_result, value_of};
-ghost use Rattle.journal.specs.Words.{are_words, uncommented, words_of, words_text};
+// The words of a call, written.
+ghost use Rattle.std.specs.Prelude.{◌≡◌, ◌++◌, true, [], ◌∷◌, Some, OnOk, string_bytes};
+ghost use Rattle.journal.specs.LineText.{IsWritable, parts_of};
+ghost use Rattle.journal.specs.Lines.{call_of, value_of};
+ghost use Rattle.journal.specs.Words.{are_words, words_text};
 
 use crate::call::Call;
 use crate::drafts::write_draft;
@@ -13,13 +13,18 @@ use store::{Post, Reading};
 
 // A word at the end of a line.
 pub(crate) fn write_word(line: &mut String, word: &str) -> Result<(), AllocError>
-    ensures { OnOk result (string_bytes line.new ≡ string_bytes line.old ++ words_text (word.now ∷ [])) }
+    ensures { OnOk result (
+        string_bytes line.new ≡ string_bytes line.old ++ words_text (word.now ∷ [])) }
 {
     write!(line, " {word}")
 }
 
 // The words of a call after its verb.
-fn write_words(alloc: Global, line: &mut String, call: &Call<'_>) -> Result<(), AllocError>
+pub(crate) fn write_words(
+    alloc: Global,
+    line: &mut String,
+    call: &Call<'_>,
+) -> Result<(), AllocError>
     ensures written { OnOk result (
         string_bytes line.new ≡ string_bytes line.old ++ words_text (parts_of call.now).1) }
     ensures words { OnOk result (IsWritable call.now → are_words (parts_of call.now).1 ≡ true) }
@@ -91,19 +96,5 @@ fn write_words(alloc: Global, line: &mut String, call: &Call<'_>) -> Result<(), 
         } => write_all(line, &[*month, *number]),
         Call::Text { entry } => write_all(line, &[*entry]),
         Call::Ledger => Ok(()),
-    }
-}
-
-impl Call<'_> {
-    /// The line that writes it down. It reads as the call again, where the texts that the call names
-    /// are words: without a space and without `#`.
-    pub fn write(&self, alloc: Global) -> Result<String, AllocError>
-        ensures text { IfOk result (λ line. string_bytes line ≡ line_text self.now) }
-        ensures again { IfOk result (λ line. IsWritable self.now →
-            parse_result (words_of (uncommented (string_bytes line))) ≡ Ok (Some (value_of self.now))) }
-    {
-        let mut line = String::from_str(alloc, self.verb().word())?;
-        write_words(alloc, &mut line, self)?;
-        Ok(line)
     }
 }

@@ -18,13 +18,15 @@ use store::Reading;
 
 // The number that a text begins with, and what stands after it.
 fn next_number(text: &str) -> Option<(u32, &str)>
-    ensures { MatchOption result (first_number (words_of text.now) ≡ None) (λ found. first_number (words_of text.now) ≡ Some (found.0, words_of found.1.now)) }
+    ensures { MatchOption result (first_number (words_of text.now) ≡ None) (λ found.
+        first_number (words_of text.now) ≡ Some (found.0, words_of found.1.now)) }
 {
     let (word, text) = next_word(text)?;
     let number = u32::parse(word)?;
     Some((number, text))
 }
 
+// The call `open`, by the text after its verb.
 fn open_of(alloc: Global, text: &str) -> Result<Option<Call<'_>>, AllocError>
     ensures { IfOk result (λ call. option_map value_of call ≡ open_of (words_of text.now)) }
 {
@@ -48,6 +50,7 @@ fn open_of(alloc: Global, text: &str) -> Result<Option<Call<'_>>, AllocError>
     }))
 }
 
+// The call `day`.
 fn post_day_of(alloc: Global, text: &str) -> Result<Option<Call<'_>>, AllocError>
     ensures { IfOk result (λ call. option_map value_of call ≡ post_day_of (words_of text.now)) }
 {
@@ -71,6 +74,7 @@ fn post_day_of(alloc: Global, text: &str) -> Result<Option<Call<'_>>, AllocError
     }))
 }
 
+// The call `load`.
 fn load_of(text: &str) -> Option<Call<'_>>
     ensures { option_map value_of result ≡ load_of (words_of text.now) }
 {
@@ -107,7 +111,8 @@ fn call_of(alloc: Global, verb: Verb, text: &str) -> Result<Option<Call<'_>>, Al
     }
 }
 
-// The call that a line writes down; none where it has no word, or only a comment.
+/// The call that a line writes down: none where it has no word, or only a comment; an error where its
+/// first word begins no call, or its other words are not those of the call.
 pub fn read(alloc: Global, line: &str) -> Result<Option<Call<'_>>, ParseError>
     ensures { Gives result (parse_result (words_of (uncommented line.now))) }
 {

@@ -17,10 +17,17 @@ returns-clause-again g c =
     let figures : List ℤ = figure_values (g.K.SheetKind.figures draft) in
     let published : List ℤ = figure_values (g.K.SheetKind.figures (g.K.SheetKind.published kind)) in
     let back = g.met.K.SheetKind.read_back draft in
-    let named : g.K.NamedKind.named (g.K.NamedKind.word kind) ≡ Some kind = rw (c.of-kind.ensures) at c.word.ensures.again in
-    let parsed : values_of figure_of (map signed_decimal (line_order own figures)) ≡ Some (line_order own figures) = grind (arith, common_steps, c.in_ok-write_all.ensures.again) in
+    let named : g.K.NamedKind.named (g.K.NamedKind.word kind) ≡ Some kind =
+    rw (c.of-kind.ensures) at c.word.ensures.again in
+    let parsed : values_of figure_of (map signed_decimal (line_order own figures))
+    ≡ Some (line_order own figures) =
+    grind (arith, common_steps, c.in_ok-write_all.ensures.again) in
     let some : IsSome (g.K.SheetKind.from_figures kind figures) = rw back refl in
-    let same : length figures ≡ length published = (g.met.K.SheetKind.complete kind figures).0 some ∙ sym (length-map (g.K.SheetKind.figures (g.K.SheetKind.published kind)) (λ (figure : Figure). figure.value)) in
-    let within : own.first + own.count ≤ length figures = omega (arith, g.met.K.NamedKind.own_within kind, length-map (g.K.SheetKind.figures (g.K.SheetKind.published kind)) (λ (figure : Figure). figure.value)) in
-    let again : sheet_order own (complete_figures own published (line_order own figures)) ≡ figures = figures_again own published figures within (sym same) in
+    let same : length figures ≡ length published =
+    (g.met.K.SheetKind.complete kind figures).0 some
+    ∙ sym (length-map (g.K.SheetKind.figures (g.K.SheetKind.published kind)) (λ (figure : Figure). figure.value)) in
+    let within : own.first + own.count ≤ length figures =
+    omega (arith, g.met.K.NamedKind.own_within kind, length-map (g.K.SheetKind.figures (g.K.SheetKind.published kind)) (λ (figure : Figure). figure.value)) in
+    let again : sheet_order own (complete_figures own published (line_order own figures)) ≡ figures =
+    figures_again own published figures within (sym same) in
     rw (named, parsed) (ap (g.K.SheetKind.from_figures kind) again ∙ back)

@@ -13,8 +13,10 @@ returns-clause-again c writable =
     let verb = (parts_of c.args.self.now).0 in
     let words = (parts_of c.args.self.now).1 in
     let after = c.in_ok-write_words.ensures in
-    let begun : string_bytes c.in_ok-line.line ≡ verb_word verb = c.in_ok-line.ensures.ok ∙ c.word.ensures ∙ ap verb_word c.verb.ensures in
-    let whole : string_bytes c.write_words.new.line ≡ line_text c.args.self.now = after.written ∙ ap (λ t. t ++ words_text words) begun in
+    let begun : string_bytes c.in_ok-line.line ≡ verb_word verb =
+    c.in_ok-line.ensures.ok ∙ c.word.ensures ∙ ap verb_word c.verb.ensures in
+    let whole : string_bytes c.write_words.new.line ≡ line_text c.args.self.now =
+    after.written ∙ ap (λ t. t ++ words_text words) begun in
     ap (λ t. parse_result (words_of (uncommented t))) whole
     ∙ ap (λ t. parse_result (words_of t)) (text_uncommented (verb_word verb) words (verb_is_word verb) (after.words writable))
     ∙ ap parse_result (text_words (verb_word verb) words (verb_is_word verb) (after.words writable))

@@ -1,8 +1,8 @@
-// What is no call is misread, and the misreading says what was expected.
-use journal::{Misread, Verb, read};
+// What is no call is refused, and the error says what was expected.
+use journal::{ParseError, Verb, read};
 use std::test::Fail;
 
-const MISREAD: [(&str, Verb); 28] = [
+const WRONG: [(&str, Verb); 28] = [
     ("memory 48", Verb::Memory),
     ("memory 48 2000 1", Verb::Memory),
     ("rate", Verb::Rate),
@@ -34,11 +34,11 @@ const MISREAD: [(&str, Verb); 28] = [
 ];
 
 #[test]
-fn other_words_are_misread(rt: HostRuntime) {
-    for (line, verb) in MISREAD {
+fn other_words_are_refused(rt: HostRuntime) {
+    for (line, verb) in WRONG {
         assert_eq!(rt;
             read(rt.alloc(), line).err(),
-            Some(Misread::Expected(verb)),
+            Some(ParseError::Expected(verb)),
             "{line}"
         );
     }
@@ -49,17 +49,17 @@ fn an_unknown_word_is_no_call(rt: HostRuntime) {
     for line in ["bills 1", "Bill 1", "1 bill", "bil"] {
         assert_eq!(rt;
             read(rt.alloc(), line).err(),
-            Some(Misread::NoCall),
+            Some(ParseError::NoCall),
             "{line}"
         );
     }
 }
 
 #[test]
-fn a_misreading_says_what_was_expected(rt: HostRuntime) -> Result<(), Fail> {
-    let reading = Misread::Expected(Verb::Reading).to_string(rt.alloc())?;
+fn an_error_says_what_was_expected(rt: HostRuntime) -> Result<(), Fail> {
+    let reading = ParseError::Expected(Verb::Reading).to_string(rt.alloc())?;
     assert_eq!(rt; reading.as_str(), "expected: reading MONTH QUARTER KW KVA");
-    let none = Misread::NoCall.to_string(rt.alloc())?;
+    let none = ParseError::NoCall.to_string(rt.alloc())?;
     assert_eq!(rt; none.as_str(), "no call begins so");
     Ok(())
 }
