@@ -1,10 +1,10 @@
 -- What due and total answer of a billed month.
 use Rattle.std.proofs.Common.{◌≡◌, ℕ, ◌+◌, ◌-◌, ◌<◌, true, false, cond, leb, List, length, get_or, ℤ, pos, is_some, Some, None, Ok, Err, Decides, Option, sym, refl, ap, ◌∙◌, inl, inr, arith}
 use Rattle.std.proofs.lemmas.Bool.{and_from, cases_Bool, cond-false, le-leb, not_from_true}
-use Rattle.book.specs.Calls.{asks_due, asks_total}
-use Rattle.book.specs.Steps.{answer, answered}
+use Rattle.book.specs.Calls.{asks}
+use Rattle.book.specs.Steps.{answer, reply_unless}
 use Rattle.book.specs.Table.{fault_in, is_fault}
-use Rattle.book.specs.Views.{View, altered_line, amounts_in, priced, sums_of}
+use Rattle.book.specs.Views.{View, altered_line, amounts_in, month_outcome, sums_of}
 use Rattle.ledger.specs.Entries.{first_differing, line_sum}
 use Rattle.ledger.proofs.Sums.{first_differing_none, first_differing_some, get_or_sums, length_sums}
 use Rattle.tariff.specs.Limits.{line_count}
@@ -28,37 +28,37 @@ opened meaning v m sound billed =
 
 module _ (meaning : Meaning) (v : View) (m : ℕ) (sound : Sound meaning v) (billed : IsBilled m v) where
   -- a fault is all that still refuses
-  due_answer : answer meaning (asks_due m) v ≡ answered (cond (is_fault (priced meaning v m)) (Some (LinePastLimit m (fault_in (priced meaning v m)))) None) (is_some (altered_line meaning v m))
+  due_answer : answer meaning (asks (due m)) v ≡ reply_unless (cond (is_fault (month_outcome meaning v m)) (Some (LinePastLimit m (fault_in (month_outcome meaning v m)))) None) (is_some (altered_line meaning v m))
   due_answer =
-      ap (λ refusal. answered refusal (is_some (altered_line meaning v m)))
+      ap (λ refusal. reply_unless refusal (is_some (altered_line meaning v m)))
       (cond-false _ _ _ (not_from_true _ (opened meaning v m sound billed))
       ∙ cond-false _ _ _ (not_from_true _ billed.0)
       ∙ cond-false _ _ _ (not_from_true _ billed.1))
 
-  pub due_refuses : (fault : _) → priced meaning v m ≡ Err fault → answer meaning (asks_due m) v ≡ Err (LinePastLimit m fault)
+  pub due_refuses : (fault : _) → month_outcome meaning v m ≡ Err fault → answer meaning (asks (due m)) v ≡ Err (LinePastLimit m fault)
   due_refuses fault e = due_answer ∙ rw e refl
 
-  pub due_answers : is_fault (priced meaning v m) ≡ false → answer meaning (asks_due m) v ≡ Ok (is_some (altered_line meaning v m))
+  pub due_answers : is_fault (month_outcome meaning v m) ≡ false → answer meaning (asks (due m)) v ≡ Ok (is_some (altered_line meaning v m))
   due_answers e = due_answer ∙ rw e refl
 
-  pub total_answers : (i : ℕ) → i < line_count → answer meaning (asks_total m (i + 1)) v ≡ Ok (line_sum v.ledger m (i + 1))
+  pub total_answers : (i : ℕ) → i < line_count → answer meaning (asks (total m (i + 1))) v ≡ Ok (line_sum v.ledger m (i + 1))
   total_answers i here =
-      ap (λ refusal. answered refusal (line_sum v.ledger m (i + 1)))
+      ap (λ refusal. reply_unless refusal (line_sum v.ledger m (i + 1)))
       (cond-false _ _ _ (not_from_true _ (opened meaning v m sound billed))
       ∙ cond-false _ _ _ (not_from_true _ billed.0)
       ∙ cond-false _ _ _ (not_from_true _ (and_from (leb 1 (i + 1)) (leb (i + 1) line_count) (le-leb 1 (i + 1) (omega arith)) (le-leb (i + 1) line_count (omega arith))))
       ∙ cond-false _ _ _ (not_from_true _ billed.1))
 
   -- a month that is answered not to be due can be priced, and its sums are the amounts
-  pub not_due : answer meaning (asks_due m) v ≡ Ok false → amounts_in (priced meaning v m) ≡ sums_of v m
+  pub not_due : answer meaning (asks (due m)) v ≡ Ok false → amounts_in (month_outcome meaning v m) ≡ sums_of v m
   unfolding altered_line
   not_due e =
-      elim (cases_Bool (is_fault (priced meaning v m))) [
-        | inl fault ↦ let refused : answer meaning (asks_due m) v ≡ Err (LinePastLimit m (fault_in (priced meaning v m))) = due_answer ∙ rw fault refl in cc
+      elim (cases_Bool (is_fault (month_outcome meaning v m))) [
+        | inl fault ↦ let refused : answer meaning (asks (due m)) v ≡ Err (LinePastLimit m (fault_in (month_outcome meaning v m))) = due_answer ∙ rw fault refl in cc
         | inr prices ↦
             let is : is_some (altered_line meaning v m) ≡ false = cc (due_answers prices) in
-            first_differing_none (amounts_in (priced meaning v m)) (sums_of v m)
-            (length_amounts (priced meaning v m) prices ∙ sym (length_sums v.ledger m))
+            first_differing_none (amounts_in (month_outcome meaning v m)) (sums_of v m)
+            (length_amounts (month_outcome meaning v m) prices ∙ sym (length_sums v.ledger m))
             (none_some (altered_line meaning v m) is)
       ]
 
@@ -82,11 +82,11 @@ differs n amounts so_far counted summed = (
       ],
 )
 
-pub due_decides : (meaning : Meaning) (v : View) (m : ℕ) (then now : List ℤ) → priced meaning v m ≡ Ok now → ((i : ℕ) → i < line_count → line_sum v.ledger m (i + 1) ≡ get_or then i (pos 0)) → Decides (is_some (altered_line meaning v m)) ((i : ℕ) × (i < line_count) × (get_or now i (pos 0) ≡ get_or then i (pos 0) → ⊥))
+pub due_decides : (meaning : Meaning) (v : View) (m : ℕ) (then now : List ℤ) → month_outcome meaning v m ≡ Ok now → ((i : ℕ) → i < line_count → line_sum v.ledger m (i + 1) ≡ get_or then i (pos 0)) → Decides (is_some (altered_line meaning v m)) ((i : ℕ) × (i < line_count) × (get_or now i (pos 0) ≡ get_or then i (pos 0) → ⊥))
 unfolding altered_line
 due_decides meaning v m then now e sums =
-    let decided = differs line_count (amounts_in (priced meaning v m)) (sums_of v m) (length_amounts (priced meaning v m) (ap is_fault e)) (length_sums v.ledger m) in
-    let amount : (i : ℕ) → i < line_count → get_or (amounts_in (priced meaning v m)) i (pos 0) ≡ get_or now i (pos 0) = λ i here. amounts_line (priced meaning v m) now i e here in
+    let decided = differs line_count (amounts_in (month_outcome meaning v m)) (sums_of v m) (length_amounts (month_outcome meaning v m) (ap is_fault e)) (length_sums v.ledger m) in
+    let amount : (i : ℕ) → i < line_count → get_or (amounts_in (month_outcome meaning v m)) i (pos 0) ≡ get_or now i (pos 0) = λ i here. amounts_line (month_outcome meaning v m) now i e here in
     let sum : (i : ℕ) → i < line_count → get_or (sums_of v m) i (pos 0) ≡ get_or then i (pos 0) = λ i here. get_or_sums v.ledger m i here ∙ sums i here in (
       λ some. let line = decided.0 some in (line.0, line.1, λ same. line.2 (amount line.0 line.1 ∙ same ∙ sym (sum line.0 line.1))),
       λ line. decided.1 (line.0, line.1, λ same. line.2 (sym (amount line.0 line.1) ∙ same ∙ sum line.0 line.1)),

@@ -1,30 +1,30 @@
 -- The ledger of a run: what the accepted bills and true-ups prescribe, in their order.
 use Rattle.std.proofs.Common.{◌≡◌, cond, List, [], ◌∷◌, ◌++◌, sym, refl, ap, ◌∙◌}
 use Rattle.std.proofs.lemmas.List.{append_assoc, append-nil}
-use Rattle.book.specs.Calls.{Call, opens, starts, posts, bills, trues_up, finalises, asks_due, asks_total}
-use Rattle.book.specs.Steps.{after, step}
+use Rattle.book.specs.Calls.{Call, opens, starts, posts, bills, trues_up, finalises, asks}
+use Rattle.book.specs.Steps.{view_after, step}
 use Rattle.book.specs.Views.{View}
 use Rattle.tariff.specs.Pricing.{Meaning}
-use Rattle.audit.specs.Runs.{accepted, performed, prescribed, prescribed_by}
+use Rattle.audit.specs.Runs.{is_accepted, view_after_run, call_entries, run_entries}
 use Rattle.audit.proofs.Table.{by_step}
 
 module _ (meaning : Meaning) where
-  after_ledger : (call : Call) (v : View) → (after meaning call v).ledger ≡ v.ledger ++ prescribed meaning call v
+  after_ledger : (call : Call) (v : View) → (view_after meaning call v).ledger ≡ v.ledger ++ call_entries meaning call v
   after_ledger (opens code contract substation carried) v = sym (append-nil v.ledger)
   after_ledger (starts days) v = sym (append-nil v.ledger)
   after_ledger (posts m post) v = sym (append-nil v.ledger)
   after_ledger (bills m) v = refl
   after_ledger (trues_up m) v = refl
   after_ledger (finalises m) v = sym (append-nil v.ledger)
-  after_ledger (asks_due m) v = sym (append-nil v.ledger)
-  after_ledger (asks_total m line) v = sym (append-nil v.ledger)
+  after_ledger (asks (due m)) v = sym (append-nil v.ledger)
+  after_ledger (asks (total m line)) v = sym (append-nil v.ledger)
 
-  step_ledger : (call : Call) (v : View) → (step meaning call v).ledger ≡ v.ledger ++ cond (accepted meaning call v) (prescribed meaning call v) []
+  step_ledger : (call : Call) (v : View) → (step meaning call v).ledger ≡ v.ledger ++ cond (is_accepted meaning call v) (call_entries meaning call v) []
   step_ledger call v =
-      by_step meaning call v (λ w taken. w.ledger ≡ v.ledger ++ cond taken (prescribed meaning call v) []) (sym (append-nil v.ledger)) (λ e. after_ledger call v)
+      by_step meaning call v (λ w taken. w.ledger ≡ v.ledger ++ cond taken (call_entries meaning call v) []) (sym (append-nil v.ledger)) (λ e. after_ledger call v)
 
-  pub run_ledger : (calls : List Call) (v : View) → (performed meaning calls v).ledger ≡ v.ledger ++ prescribed_by meaning calls v
+  pub run_ledger : (calls : List Call) (v : View) → (view_after_run meaning calls v).ledger ≡ v.ledger ++ run_entries meaning calls v
   run_ledger [] v = sym (append-nil v.ledger)
   run_ledger (call ∷ calls) v =
       let w = step meaning call v in
-      run_ledger calls w ∙ ap (λ entries. entries ++ prescribed_by meaning calls w) (step_ledger call v) ∙ append_assoc v.ledger _ _
+      run_ledger calls w ∙ ap (λ entries. entries ++ run_entries meaning calls w) (step_ledger call v) ∙ append_assoc v.ledger _ _

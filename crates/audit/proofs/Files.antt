@@ -1,10 +1,10 @@
 -- What pricing a month depends on: the file of that month, and the peaks before it.
 use Rattle.std.proofs.Common.{◌≡◌, ℕ, suc, ◌+◌, List, [], ◌∷◌, ◌++◌, map, length, take, drop, Option, sym, refl, ap, ◌∙◌, arith}
 use Rattle.std.proofs.lemmas.List.{drop-take}
-use Rattle.book.specs.Views.{View, altered_line, contract_of, facts_of, month_at, place, priced, substation_of, sums_of}
+use Rattle.book.specs.Views.{View, altered_line, contract_of, facts_of, month_at, month_index, month_outcome, substation_of, sums_of}
 use Rattle.store.specs.Months.{HourOnFile, Month, peak_kva, ratchet_peak, hour_rows, kva_of, kw_of, peak, ratchet, top}
-use Rattle.store.specs.declared.reading.Reading.{Reading}
-use Rattle.store.specs.declared.state.State.TheVariants.{Open}
+use Rattle.store.specs.declared.post.Reading.{Reading}
+use Rattle.store.specs.declared.month.State.TheVariants.{Open}
 use Rattle.tariff.specs.Pricing.{Meaning}
 use Rattle.tariff.specs.declared.facts.PlainFacts.{PlainFacts}
 use Rattle.tariff.specs.declared.hours.HourRow.{HourRow}
@@ -55,8 +55,8 @@ module _ (v : View) (m : ℕ) (w : View) (n : ℕ) (agree : Agree v m w n) (days
       let two = hour_rows_from (month_at n w) in
       cc (agree.readings, agree.hours)
 
-  pub agreed : (meaning other : Meaning) → ((facts : PlainFacts) (hours : List HourRow) → meaning facts hours ≡ other facts hours) → priced meaning v m ≡ priced other w n
-  unfolding priced
+  pub agreed : (meaning other : Meaning) → ((facts : PlainFacts) (hours : List HourRow) → meaning facts hours ≡ other facts hours) → month_outcome meaning v m ≡ month_outcome other w n
+  unfolding month_outcome
   agreed meaning other alike =
       let same = alike (facts_of w n) (hour_rows (month_at n w)) in
       let facts = agreed_facts in
@@ -78,7 +78,7 @@ window xs ys n k e =
 pub record Spared (v : View) (m : ℕ) (w : View) : Type 0 where
   pub point : v.point ≡ w.point
   pub before : v.before ≡ w.before
-  pub peaks : take (place m) (map peak v.months) ≡ take (place m) (map peak w.months)
+  pub peaks : take (month_index m) (map peak v.months) ≡ take (month_index m) (map peak w.months)
   pub days : (month_at m v).days ≡ (month_at m w).days
   pub readings : (month_at m v).readings ≡ (month_at m w).readings
   pub hours : (month_at m v).hours ≡ (month_at m w).hours
@@ -87,11 +87,11 @@ module _ (v : View) (m : ℕ) (w : View) (counted : length v.before ≡ ratchet)
   spared_earlier : (facts_of v m).ratchet_peak ≡ (facts_of w m).ratchet_peak
   unfolding facts_of ratchet_peak
   spared_earlier =
-      let old = window v.before (map peak v.months) ratchet (place m) counted in
-      let new = window w.before (map peak w.months) ratchet (place m) (ap length (sym spared.before) ∙ counted) in
+      let old = window v.before (map peak v.months) ratchet (month_index m) counted in
+      let new = window w.before (map peak w.months) ratchet (month_index m) (ap length (sym spared.before) ∙ counted) in
       cc (spared.before, spared.peaks)
 
-  pub spared_priced : (meaning : Meaning) → priced meaning v m ≡ priced meaning w m
+  pub spared_priced : (meaning : Meaning) → month_outcome meaning v m ≡ month_outcome meaning w m
   spared_priced meaning =
       agreed v m w m
       (record {

@@ -5,11 +5,11 @@ use Rattle.std.proofs.lemmas.List.{get_or_append_left, get_or_past, get_or_push,
 use Rattle.std.proofs.lemmas.Bool.{both_ways, cases_eq, cases_lt}
 use Rattle.book.specs.Calls.{Post, reading, day, price, scheduled}
 use Rattle.book.specs.Steps.{with_post}
-use Rattle.book.specs.Views.{View, month_has_reached, place}
+use Rattle.book.specs.Views.{View, month_has_reached, month_index}
 use Rattle.std.proofs.lemmas.List.Sums.{prefix_len_passes}
 use Rattle.store.specs.Months.{Month, months_with, first_short, new_month, no_month, quarters_of, has_reached}
-use Rattle.store.specs.declared.state.State.{State}
-use Rattle.store.specs.declared.state.State.TheVariants.{Open, Billed, Final}
+use Rattle.store.specs.declared.month.State.{State}
+use Rattle.store.specs.declared.month.State.TheVariants.{Open, Billed, Final}
 
 pub final_billed : (state : State) → has_reached Final state ≡ true → has_reached Billed state ≡ true
 final_billed Open e = e
@@ -43,14 +43,14 @@ no_month_shaped = fresh_shaped 0
 
 -- the month that is altered, and the others
 module _ (months : List Month) (m : ℕ) (alter : Month → Month) (low : 1 ≤ m) where
-  pub altered_here : m ≤ length months → get_or (months_with (place m) alter months) (place m) no_month ≡ alter (get_or months (place m) no_month)
-  altered_here high = get_or-set_same months (place m) (alter (get_or months (place m) no_month)) no_month (omega arith)
+  pub altered_here : m ≤ length months → get_or (months_with (month_index m) alter months) (month_index m) no_month ≡ alter (get_or months (month_index m) no_month)
+  altered_here high = get_or-set_same months (month_index m) (alter (get_or months (month_index m) no_month)) no_month (omega arith)
 
-  pub altered_other : (n : ℕ) → 1 ≤ n → n ≢ m → get_or (months_with (place m) alter months) (place n) no_month ≡ get_or months (place n) no_month
+  pub altered_other : (n : ℕ) → 1 ≤ n → n ≢ m → get_or (months_with (month_index m) alter months) (month_index n) no_month ≡ get_or months (month_index n) no_month
   altered_other n some other =
-      get_or-set_other months (place m) (place n) (alter (get_or months (place m) no_month)) no_month (λ e. other (omega arith))
+      get_or-set_other months (month_index m) (month_index n) (alter (get_or months (month_index m) no_month)) no_month (λ e. other (omega arith))
 
-  pub altered_at : m ≤ length months → (n : ℕ) → 1 ≤ n → (P : Month → Type 0) → (n ≡ m → P (alter (get_or months (place m) no_month))) → (n ≢ m → P (get_or months (place n) no_month)) → P (get_or (months_with (place m) alter months) (place n) no_month)
+  pub altered_at : m ≤ length months → (n : ℕ) → 1 ≤ n → (P : Month → Type 0) → (n ≡ m → P (alter (get_or months (month_index m) no_month))) → (n ≢ m → P (get_or months (month_index n) no_month)) → P (get_or (months_with (month_index m) alter months) (month_index n) no_month)
   altered_at high n some P here there =
       elim (cases_eq n m) [
         | inl same ↦ rw same (rw (altered_here high) (here same))
@@ -83,7 +83,7 @@ pub billed_there : (v : View) (m : ℕ) → 1 ≤ m → month_has_reached Billed
 billed_there v m low billed =
     elim (cases_lt (length v.months) m) [
       | inl past ↦
-          let state = ap (λ month. month.state) (get_or_past v.months (place m) no_month (omega arith)) ∙ no_month_open in
+          let state = ap (λ month. month.state) (get_or_past v.months (month_index m) no_month (omega arith)) ∙ no_month_open in
           elim (both_ways (month_has_reached Billed m v) (ap (has_reached Billed) state) billed) [ ]
       | inr there ↦ there
     ]
@@ -109,8 +109,8 @@ module _ (post : Post) (month : Month) where
       ]
 
 -- where no earlier month is short of a state, each has reached it
-pub none_short : (state : State) (v : View) (m n : ℕ) → place m ≤ first_short state v.months (place m) → 1 ≤ n → n < m → month_has_reached state n v ≡ true
+pub none_short : (state : State) (v : View) (m n : ℕ) → month_index m ≤ first_short state v.months (month_index m) → 1 ≤ n → n < m → month_has_reached state n v ≡ true
 none_short state v m n all low before =
-    let passes = prefix_len_passes (λ month. has_reached state month.state) (take (place m) v.months) (place n) no_month (omega arith) in
-    let same = get_or-take (place m) v.months (place n) no_month (omega arith) in
+    let passes = prefix_len_passes (λ month. has_reached state month.state) (take (month_index m) v.months) (month_index n) no_month (omega arith) in
+    let same = get_or-take (month_index m) v.months (month_index n) no_month (omega arith) in
     ap (λ month. has_reached state month.state) (sym same) ∙ passes

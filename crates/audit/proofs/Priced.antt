@@ -3,19 +3,19 @@ use Rattle.std.proofs.Common.{◌≡◌, ℕ, ◌+◌, ◌-◌, ◌<◌, ◌≤�
 use Rattle.std.proofs.lemmas.List.FromFn.{get_or-map-range_with_len, length-map-range_with_len}
 use Rattle.std.proofs.lemmas.Int.{ints}
 use Rattle.std.proofs.lemmas.Bool.{eqb-false, eqb-true}
-use Rattle.book.specs.Calls.{Call, opens, starts, posts, bills, trues_up, finalises, asks_due, asks_total}
-use Rattle.book.specs.Steps.{after, step, with_post}
-use Rattle.book.specs.Table.{bill_entries, is_fault, refused}
-use Rattle.book.specs.Views.{View, amounts_in, month_has_reached, month_at, priced}
+use Rattle.book.specs.Calls.{Call, opens, starts, posts, bills, trues_up, finalises, asks}
+use Rattle.book.specs.Steps.{view_after, step, with_post}
+use Rattle.book.specs.Table.{bill_entries, is_fault, refusal_of}
+use Rattle.book.specs.Views.{View, amounts_in, month_has_reached, month_at, month_outcome}
 use Rattle.ledger.specs.Entries.{line_sum}
 use Rattle.ledger.specs.declared.entry.EntryKind.TheVariants.{Bill, TrueUp}
 use Rattle.ledger.proofs.Sums.{entries_for_line, line_sum_append, written_sum}
 use Rattle.store.specs.Months.{has_reached, with_state}
-use Rattle.store.specs.declared.state.State.TheVariants.{Billed, Final}
+use Rattle.store.specs.declared.month.State.TheVariants.{Billed, Final}
 use Rattle.tariff.specs.Limits.{line_count}
 use Rattle.tariff.specs.Pricing.{Meaning, Outcome}
-use Rattle.audit.specs.Laws.{Latest}
-use Rattle.audit.specs.Runs.{accepted, last_priced, or_else, performed, prices}
+use Rattle.audit.specs.Laws.{IsLatestPricing}
+use Rattle.audit.specs.Runs.{is_accepted, view_at_pricing, option_or, view_after_run, is_pricing_of}
 use Rattle.audit.proofs.Months.{altered_at, altered_other, post_state, pushed_state}
 use Rattle.audit.proofs.Sound.{Sound, kept, written_elsewhere}
 use Rattle.audit.proofs.Table.{billing, by_step, finalising, posting, truing}
@@ -37,7 +37,7 @@ priced_at (Err fault) e = let never : ◌≡◌ {A = ℕ} 0 1 = cc in ([], cc)
 -- w holds what was written for the month at the book u
 pub record Stands (meaning : Meaning) (u : View) (m : ℕ) (w : View) : Type 0 where
   pub cents : List ℤ
-  pub amounts : priced meaning u m ≡ Ok cents
+  pub amounts : month_outcome meaning u m ≡ Ok cents
   pub sums : (i : ℕ) → i < line_count → line_sum w.ledger m (i + 1) ≡ get_or cents i (pos 0)
 
 -- the month was not priced from v to w
@@ -46,30 +46,30 @@ pub record Unpriced (v : View) (m : ℕ) (w : View) : Type 0 where
   pub sums : (l : ℕ) → line_sum w.ledger m l ≡ line_sum v.ledger m l
 
 module _ (meaning : Meaning) (m : ℕ) (v : View) where
-  bill_stands : Sound meaning v → refused meaning (bills m) v ≡ None → Stands meaning v m (after meaning (bills m) v)
+  bill_stands : Sound meaning v → refusal_of meaning (bills m) v ≡ None → Stands meaning v m (view_after meaning (bills m) v)
   bill_stands sound e =
       let h = billing meaning v m e in
-      let found = priced_at (priced meaning v m) h.prices in
+      let found = priced_at (month_outcome meaning v m) h.prices in
       record {
         cents = found.0;
         amounts = found.1;
         sums = λ i here.
             let both = line_sum_append v.ledger (bill_entries meaning v m) m (i + 1) in
             let none = sound.unbilled m (i + 1) h.names.low h.unbilled in
-            let new = entries_for_line Bill m (amounts_in (priced meaning v m)) i ∙ amounts_line (priced meaning v m) found.0 i found.1 here in
+            let new = entries_for_line Bill m (amounts_in (month_outcome meaning v m)) i ∙ amounts_line (month_outcome meaning v m) found.0 i found.1 here in
             omega (arith, ints);
       }
 
-  true_up_stands : refused meaning (trues_up m) v ≡ None → Stands meaning v m (after meaning (trues_up m) v)
+  true_up_stands : refusal_of meaning (trues_up m) v ≡ None → Stands meaning v m (view_after meaning (trues_up m) v)
   true_up_stands e =
       let h = truing meaning v m e in
-      let found = priced_at (priced meaning v m) h.prices in
+      let found = priced_at (month_outcome meaning v m) h.prices in
       record {
         cents = found.0;
         amounts = found.1;
         sums = λ i here.
-            written_sum TrueUp v.ledger m (amounts_in (priced meaning v m)) (length_amounts (priced meaning v m) h.prices) i here
-            ∙ amounts_line (priced meaning v m) found.0 i found.1 here;
+            written_sum TrueUp v.ledger m (amounts_in (month_outcome meaning v m)) (length_amounts (month_outcome meaning v m) h.prices) i here
+            ∙ amounts_line (month_outcome meaning v m) found.0 i found.1 here;
       }
 
   unmoved : Unpriced v m v
@@ -83,7 +83,7 @@ if_taken : (b : Bool) (P Q : Type 0) → (b ≡ true → P) → (b ≡ false →
 if_taken true P Q p q = p refl
 if_taken false P Q p q = q refl
 
-priced_after : (meaning : Meaning) (call : Call) (m : ℕ) (v : View) → Sound meaning v → 1 ≤ m → refused meaning call v ≡ None → MatchBool (prices m call && true) (Stands meaning v m (after meaning call v)) (Unpriced v m (after meaning call v))
+priced_after : (meaning : Meaning) (call : Call) (m : ℕ) (v : View) → Sound meaning v → 1 ≤ m → refusal_of meaning call v ≡ None → MatchBool (is_pricing_of m call && true) (Stands meaning v m (view_after meaning call v)) (Unpriced v m (view_after meaning call v))
 priced_after meaning (opens code contract substation carried) m v sound low e = record { billed = λ h. h; sums = λ l. refl }
 priced_after meaning (starts days) m v sound low e =
     record { billed = λ h. sym (ap (has_reached Billed) (pushed_state v.months days (m - 1))) ∙ h; sums = λ l. refl }
@@ -98,7 +98,7 @@ priced_after meaning (posts n post) m v sound low e =
     }
 priced_after meaning (bills n) m v sound low e =
     let h = (billing meaning v n e).names in
-    if_taken (eqb n m) (Stands meaning v m (after meaning (bills n) v)) (Unpriced v m (after meaning (bills n) v))
+    if_taken (eqb n m) (Stands meaning v m (view_after meaning (bills n) v)) (Unpriced v m (view_after meaning (bills n) v))
     (λ same. rw (sym (eqb-true n m same)) (bill_stands meaning n v sound e))
     (λ differs.
     let other : m ≢ n = λ same. eqb-false n m differs (sym same) in
@@ -107,7 +107,7 @@ priced_after meaning (bills n) m v sound low e =
       sums = λ l. written_elsewhere Bill v.ledger n _ m l other;
     })
 priced_after meaning (trues_up n) m v sound low e =
-    if_taken (eqb n m) (Stands meaning v m (after meaning (trues_up n) v)) (Unpriced v m (after meaning (trues_up n) v))
+    if_taken (eqb n m) (Stands meaning v m (view_after meaning (trues_up n) v)) (Unpriced v m (view_after meaning (trues_up n) v))
     (λ same. rw (sym (eqb-true n m same)) (true_up_stands meaning n v e))
     (λ differs. record {
       billed = λ done. done;
@@ -122,13 +122,13 @@ priced_after meaning (finalises n) m v sound low e =
           (λ other done. done);
       sums = λ l. refl;
     }
-priced_after meaning (asks_due n) m v sound low e = record { billed = λ h. h; sums = λ l. refl }
-priced_after meaning (asks_total n line) m v sound low e = record { billed = λ h. h; sums = λ l. refl }
+priced_after meaning (asks (due n)) m v sound low e = record { billed = λ h. h; sums = λ l. refl }
+priced_after meaning (asks (total n line)) m v sound low e = record { billed = λ h. h; sums = λ l. refl }
 
-priced_step : (meaning : Meaning) (call : Call) (m : ℕ) (v : View) → Sound meaning v → 1 ≤ m → MatchBool (prices m call && accepted meaning call v) (Stands meaning v m (step meaning call v)) (Unpriced v m (step meaning call v))
+priced_step : (meaning : Meaning) (call : Call) (m : ℕ) (v : View) → Sound meaning v → 1 ≤ m → MatchBool (is_pricing_of m call && is_accepted meaning call v) (Stands meaning v m (step meaning call v)) (Unpriced v m (step meaning call v))
 priced_step meaning call m v sound low =
-    by_step meaning call v (λ w taken. MatchBool (prices m call && taken) (Stands meaning v m w) (Unpriced v m w))
-    (never_taken (prices m call) (Stands meaning v m v) (Unpriced v m v) (unmoved meaning m v))
+    by_step meaning call v (λ w taken. MatchBool (is_pricing_of m call && taken) (Stands meaning v m w) (Unpriced v m w))
+    (never_taken (is_pricing_of m call) (Stands meaning v m v) (Unpriced v m v) (unmoved meaning m v))
     (priced_after meaning call m v sound low)
 
 -- what the latest pricing of a run from v to w wrote stands; where there was none, nothing has moved
@@ -136,22 +136,22 @@ abbrev Upheld : Meaning → View → ℕ → View → Option View → Type 0
 Upheld meaning v m w (Some u) = Stands meaning u m w
 Upheld meaning v m w None = Unpriced v m w
 
-upheld_more : (meaning : Meaning) (m : ℕ) (v u w : View) (later : Option View) (b : Bool) → Upheld meaning u m w later → MatchBool b (Stands meaning v m u) (Unpriced v m u) → Upheld meaning v m w (or_else later (cond b (Some v) None))
+upheld_more : (meaning : Meaning) (m : ℕ) (v u w : View) (later : Option View) (b : Bool) → Upheld meaning u m w later → MatchBool b (Stands meaning v m u) (Unpriced v m u) → Upheld meaning v m w (option_or later (cond b (Some v) None))
 upheld_more meaning m v u w (Some stood) b later now = later
 upheld_more meaning m v u w None true later now =
     record { cents = now.cents; amounts = now.amounts; sums = λ i here. later.sums (i + 1) ∙ now.sums i here }
 upheld_more meaning m v u w None false later now =
     record { billed = λ h. now.billed (later.billed h); sums = λ l. later.sums l ∙ now.sums l }
 
-pub upheld : (meaning : Meaning) (calls : List Call) (m : ℕ) (v : View) → Sound meaning v → 1 ≤ m → Upheld meaning v m (performed meaning calls v) (last_priced meaning calls v m)
+pub upheld : (meaning : Meaning) (calls : List Call) (m : ℕ) (v : View) → Sound meaning v → 1 ≤ m → Upheld meaning v m (view_after_run meaning calls v) (view_at_pricing meaning calls v m)
 upheld meaning [] m v sound low = unmoved meaning m v
 upheld meaning (call ∷ calls) m v sound low =
     let u = step meaning call v in
-    upheld_more meaning m v u (performed meaning calls u) (last_priced meaning calls u m) (prices m call && accepted meaning call v)
+    upheld_more meaning m v u (view_after_run meaning calls u) (view_at_pricing meaning calls u m) (is_pricing_of m call && is_accepted meaning call v)
     (upheld meaning calls m u (kept meaning call v sound).sound low)
     (priced_step meaning call m v sound low)
 
-latest_from : (meaning : Meaning) (calls : List Call) (m : ℕ) (v w : View) (found : Option View) → last_priced meaning calls v m ≡ found → Upheld meaning v m w found → month_has_reached Billed m v ≡ false → month_has_reached Billed m w ≡ true → (cents : List ℤ) × Latest meaning calls v m cents
+latest_from : (meaning : Meaning) (calls : List Call) (m : ℕ) (v w : View) (found : Option View) → view_at_pricing meaning calls v m ≡ found → Upheld meaning v m w found → month_has_reached Billed m v ≡ false → month_has_reached Billed m w ≡ true → (cents : List ℤ) × IsLatestPricing meaning calls v m cents
 latest_from meaning calls m v w (Some u) is held short done = (held.cents, record { stood = u; latest = is; amounts = held.amounts })
 latest_from meaning calls m v w None is held short done =
     let never : false ≡ true = sym short ∙ held.billed done in
@@ -160,13 +160,13 @@ latest_from meaning calls m v w None is held short done =
     elim none [ ]
 
 -- a month that was billed over the run was priced
-pub priced_once : (meaning : Meaning) (calls : List Call) (m : ℕ) (v : View) → Sound meaning v → 1 ≤ m → month_has_reached Billed m v ≡ false → month_has_reached Billed m (performed meaning calls v) ≡ true → (cents : List ℤ) × Latest meaning calls v m cents
+pub priced_once : (meaning : Meaning) (calls : List Call) (m : ℕ) (v : View) → Sound meaning v → 1 ≤ m → month_has_reached Billed m v ≡ false → month_has_reached Billed m (view_after_run meaning calls v) ≡ true → (cents : List ℤ) × IsLatestPricing meaning calls v m cents
 priced_once meaning calls m v sound low short done =
-    latest_from meaning calls m v (performed meaning calls v) (last_priced meaning calls v m) refl (upheld meaning calls m v sound low) short done
+    latest_from meaning calls m v (view_after_run meaning calls v) (view_at_pricing meaning calls v m) refl (upheld meaning calls m v sound low) short done
 
 -- and its entries add up to that
-pub latest_sums : (meaning : Meaning) (calls : List Call) (m : ℕ) (v : View) → Sound meaning v → 1 ≤ m → (cents : List ℤ) → Latest meaning calls v m cents → (i : ℕ) → i < line_count → line_sum (performed meaning calls v).ledger m (i + 1) ≡ get_or cents i (pos 0)
+pub latest_sums : (meaning : Meaning) (calls : List Call) (m : ℕ) (v : View) → Sound meaning v → 1 ≤ m → (cents : List ℤ) → IsLatestPricing meaning calls v m cents → (i : ℕ) → i < line_count → line_sum (view_after_run meaning calls v).ledger m (i + 1) ≡ get_or cents i (pos 0)
 latest_sums meaning calls m v sound low cents latest i here =
-    let stands : Stands meaning latest.stood m (performed meaning calls v) = rw latest.latest at (upheld meaning calls m v sound low) in
+    let stands : Stands meaning latest.stood m (view_after_run meaning calls v) = rw latest.latest at (upheld meaning calls m v sound low) in
     let same : stands.cents ≡ cents = cc (stands.amounts, latest.amounts) in
     stands.sums i here ∙ ap (λ cents. get_or cents i (pos 0)) same

@@ -4,18 +4,18 @@ use Rattle.std.proofs.lemmas.Bool.{and_from, le-leb}
 use Rattle.book.specs.Calls.{Call, asks_due}
 use Rattle.book.specs.Steps.{answer}
 use Rattle.book.specs.Table.{is_fault}
-use Rattle.book.specs.Views.{View, amounts_in, month_has_reached, month_at, priced}
+use Rattle.book.specs.Views.{View, amounts_in, month_has_reached, month_at, month_outcome}
 use Rattle.ledger.specs.Entries.{line_sum}
 use Rattle.ledger.proofs.Sums.{get_or_sums}
 use Rattle.store.specs.Months.{has_reached}
-use Rattle.store.specs.declared.state.State.TheVariants.{Billed}
+use Rattle.store.specs.declared.month.State.TheVariants.{Billed}
 use Rattle.tariff.specs.Limits.{line_count}
 use Rattle.tariff.specs.Pricing.{Meaning}
 use Rattle.tariff.specs.declared.facts.PlainFacts.{PlainFacts}
 use Rattle.tariff.specs.declared.hours.HourRow.{HourRow}
 use Rattle.audit.specs.Laws as laws
-use Rattle.audit.specs.Laws.{Agree, IsBilled, IsFinal, Latest, Promise, Run, begun}
-use Rattle.audit.specs.Runs.{performed}
+use Rattle.audit.specs.Laws.{Agree, IsBilled, IsFinal, IsLatestPricing, Promise, Run, new_book, book_after}
+use Rattle.audit.specs.Runs.{view_after_run}
 use Rattle.audit.proofs.Answered.{due_answers, due_decides, due_refuses, not_due, total_answers}
 use Rattle.audit.proofs.Entries.{run_ledger}
 use Rattle.audit.proofs.Files.{agreed}
@@ -24,23 +24,23 @@ use Rattle.audit.proofs.Priced.{latest_sums, priced_once}
 use Rattle.audit.proofs.Sound.{Sound, blank_sound, runs_kept}
 use Rattle.audit.proofs.Table.{month_there}
 
-begun_sound : (meaning : Meaning) (run : Run) → Sound meaning (begun run)
+begun_sound : (meaning : Meaning) (run : Run) → Sound meaning (new_book run)
 begun_sound meaning run = blank_sound meaning run.capacity run.room
 
-reached_sound : (meaning : Meaning) (run : Run) → Sound meaning (laws.reached meaning run)
-reached_sound meaning run = (runs_kept meaning run.calls (begun run) (begun_sound meaning run)).sound
+reached_sound : (meaning : Meaning) (run : Run) → Sound meaning (book_after meaning run)
+reached_sound meaning run = (runs_kept meaning run.calls (new_book run) (begun_sound meaning run)).sound
 
-module _ (meaning : Meaning) (run : Run) (m : ℕ) (billed : IsBilled m (laws.reached meaning run)) where
-  latest : (cents : List ℤ) × Latest meaning run.calls (begun run) m cents
+module _ (meaning : Meaning) (run : Run) (m : ℕ) (billed : IsBilled m (book_after meaning run)) where
+  latest : (cents : List ℤ) × IsLatestPricing meaning run.calls (new_book run) m cents
   latest =
-      priced_once meaning run.calls m (begun run) (begun_sound meaning run) (month_there m (laws.reached meaning run) billed.0).0
+      priced_once meaning run.calls m (new_book run) (begun_sound meaning run) (month_there m (book_after meaning run) billed.0).0
       (ap (has_reached Billed) no_month_open) billed.1
 
-  sums : (cents : List ℤ) → Latest meaning run.calls (begun run) m cents → (i : ℕ) → i < line_count → line_sum (laws.reached meaning run).ledger m (i + 1) ≡ get_or cents i (pos 0)
-  sums = latest_sums meaning run.calls m (begun run) (begun_sound meaning run) (month_there m (laws.reached meaning run) billed.0).0
+  sums : (cents : List ℤ) → IsLatestPricing meaning run.calls (new_book run) m cents → (i : ℕ) → i < line_count → line_sum (book_after meaning run).ledger m (i + 1) ≡ get_or cents i (pos 0)
+  sums = latest_sums meaning run.calls m (new_book run) (begun_sound meaning run) (month_there m (book_after meaning run) billed.0).0
 
 -- a line of a month that is not due is what the month is priced at now
-current : (meaning : Meaning) (v : View) (m : ℕ) → Sound meaning v → IsBilled m v → answer meaning (asks_due m) v ≡ Ok false → (i : ℕ) → i < line_count → line_sum v.ledger m (i + 1) ≡ get_or (amounts_in (priced meaning v m)) i (pos 0)
+current : (meaning : Meaning) (v : View) (m : ℕ) → Sound meaning v → IsBilled m v → answer meaning (asks (due m)) v ≡ Ok false → (i : ℕ) → i < line_count → line_sum v.ledger m (i + 1) ≡ get_or (amounts_in (month_outcome meaning v m)) i (pos 0)
 current meaning v m sound billed answers i here =
     sym (get_or_sums v.ledger m i here) ∙ ap (λ xs. get_or xs i (pos 0)) (sym (not_due meaning v m sound billed answers))
 
@@ -49,17 +49,17 @@ same_days : (meaning other : Meaning) (v w : View) (m n : ℕ) → Sound meaning
 same_days meaning other v w m n one two low some same =
     omega (arith, one.shaped m low, two.shaped n some, ap length same)
 
-alike : (meaning other : Meaning) → ((facts : PlainFacts) (hours : List HourRow) → meaning facts hours ≡ other facts hours) → (v w : View) (m n : ℕ) → Sound meaning v → Sound other w → IsBilled m v → IsBilled n w → Agree v m w n → answer meaning (asks_due m) v ≡ Ok false → answer other (asks_due n) w ≡ Ok false → (i : ℕ) → i < line_count → line_sum v.ledger m (i + 1) ≡ line_sum w.ledger n (i + 1)
+alike : (meaning other : Meaning) → ((facts : PlainFacts) (hours : List HourRow) → meaning facts hours ≡ other facts hours) → (v w : View) (m n : ℕ) → Sound meaning v → Sound other w → IsBilled m v → IsBilled n w → Agree v m w n → answer meaning (asks (due m)) v ≡ Ok false → answer other (asks (due n)) w ≡ Ok false → (i : ℕ) → i < line_count → line_sum v.ledger m (i + 1) ≡ line_sum w.ledger n (i + 1)
 alike meaning other same v w m n one two billed billed' agree answers answers' i here =
     let days = same_days meaning other v w m n one two (month_there m v billed.0).0 (month_there n w billed'.0).0 agree.readings in
     current meaning v m one billed answers i here
     ∙ ap (λ outcome. get_or (amounts_in outcome) i (pos 0)) (agreed v m w n agree days meaning other same)
     ∙ sym (current other w n two billed' answers' i here)
 
-final : (meaning : Meaning) (v : View) (m : ℕ) → Sound meaning v → IsFinal m v → (more : List Call) → IsFinal m (performed meaning more v) × (answer meaning (asks_due m) (performed meaning more v) ≡ Ok false) × ((l : ℕ) → line_sum (performed meaning more v).ledger m l ≡ line_sum v.ledger m l)
+final : (meaning : Meaning) (v : View) (m : ℕ) → Sound meaning v → IsFinal m v → (more : List Call) → IsFinal m (view_after_run meaning more v) × (answer meaning (asks (due m)) (view_after_run meaning more v) ≡ Ok false) × ((l : ℕ) → line_sum (view_after_run meaning more v).ledger m l ≡ line_sum v.ledger m l)
 final meaning v m sound is more =
     let low : 1 ≤ m = (month_there m v is.0).0 in
-    let w = performed meaning more v in
+    let w = view_after_run meaning more v in
     let kept = runs_kept meaning more v sound in
     let still = kept.final m low is.1 in
     let billed : month_has_reached Billed m w ≡ true = final_billed (month_at m w).state still.0 in
@@ -70,22 +70,22 @@ final meaning v m sound is more =
 -- src/lib.rt:6:1
 pub promised : (meaning : Meaning) → Promise meaning
 promised meaning = record {
-  ledger = λ run. run_ledger meaning run.calls (begun run);
+  ledger = λ run. run_ledger meaning run.calls (new_book run);
   sums = λ run m billed.
       let found = latest meaning run m billed in (
         found.0,
         found.1,
         λ i here.
             let sum = sums meaning run m billed found.0 found.1 i here in
-            (sum, total_answers meaning (laws.reached meaning run) m (reached_sound meaning run) billed i here ∙ ap (λ x. Ok x) sum),
+            (sum, total_answers meaning (book_after meaning run) m (reached_sound meaning run) billed i here ∙ ap (λ x. Ok x) sum),
       );
   due = λ run m billed then now latest prices. (
     _,
-    due_answers meaning (laws.reached meaning run) m (reached_sound meaning run) billed (ap is_fault prices),
-    due_decides meaning (laws.reached meaning run) m then now prices (sums meaning run m billed then latest),
+    due_answers meaning (book_after meaning run) m (reached_sound meaning run) billed (ap is_fault prices),
+    due_decides meaning (book_after meaning run) m then now prices (sums meaning run m billed then latest),
   );
-  refuses = λ run m billed. due_refuses meaning (laws.reached meaning run) m (reached_sound meaning run) billed;
+  refuses = λ run m billed. due_refuses meaning (book_after meaning run) m (reached_sound meaning run) billed;
   alike = λ other same run run' m n.
-      alike meaning other same (laws.reached meaning run) (laws.reached other run') m n (reached_sound meaning run) (reached_sound other run');
-  final = λ run m. final meaning (laws.reached meaning run) m (reached_sound meaning run);
+      alike meaning other same (book_after meaning run) (book_after other run') m n (reached_sound meaning run) (reached_sound other run');
+  final = λ run m. final meaning (book_after meaning run) m (reached_sound meaning run);
 }

@@ -4,19 +4,19 @@ use Rattle.std.proofs.lemmas.List.FromFn.{length-map-range_with_len}
 use Rattle.std.proofs.lemmas.List.{ext_get_or, get_or_past, get_or_push, take-append-le, take-map, take-set-le}
 use Rattle.std.proofs.lemmas.Int.{ints}
 use Rattle.std.proofs.lemmas.Bool.{both_ways, cases_eq, cases_order}
-use Rattle.book.specs.Calls.{Call, opens, starts, posts, bills, trues_up, finalises, asks_due, asks_total}
-use Rattle.book.specs.Steps.{after, in_month, step, with_ledger, with_post}
-use Rattle.book.specs.Table.{bill_entries, is_fault, refused, true_up_entries}
-use Rattle.book.specs.Views.{View, altered_line, blank, month_has_reached, month_at, place, priced}
+use Rattle.book.specs.Calls.{Call, opens, starts, posts, bills, trues_up, finalises, asks}
+use Rattle.book.specs.Steps.{view_after, with_month, step, with_ledger, with_post}
+use Rattle.book.specs.Table.{bill_entries, is_fault, refusal_of, true_up_entries}
+use Rattle.book.specs.Views.{View, altered_line, blank, month_has_reached, month_at, month_index, month_outcome}
 use Rattle.ledger.specs.Entries.{entries_for, line_sum, sums}
 use Rattle.ledger.specs.declared.entry.Entry.{Entry}
 use Rattle.ledger.specs.declared.entry.EntryKind.{EntryKind}
 use Rattle.ledger.proofs.Sums.{entries_other_month, get_or_sums, length_sums, line_sum_append, line_sum_none}
 use Rattle.store.specs.Months.{Month, earlier_peaks, new_month, no_month, peak, ratchet, has_reached, with_state}
-use Rattle.store.specs.declared.state.State.TheVariants.{Billed, Final}
+use Rattle.store.specs.declared.month.State.TheVariants.{Billed, Final}
 use Rattle.tariff.specs.Limits.{line_count}
 use Rattle.tariff.specs.Pricing.{Meaning}
-use Rattle.audit.specs.Runs.{performed}
+use Rattle.audit.specs.Runs.{view_after_run}
 use Rattle.audit.proofs.Files.{Spared, spared_altered, spared_priced}
 use Rattle.audit.proofs.Months.{Shaped, altered_here, altered_other, billed_there, final_billed, fresh_shaped, no_month_open, no_month_shaped, none_short, post_shaped, post_state, pushed_other, pushed_state, unbilled_unsettled}
 use Rattle.audit.proofs.Table.{billing, by_step, finalising, opening, posting, starting, truing}
@@ -24,7 +24,7 @@ use Rattle.audit.proofs.Table.{billing, by_step, finalising, opening, posting, s
 -- a month that was made final: so are all before it, it can be priced, and pricing it alters nothing
 pub record Settled (meaning : Meaning) (v : View) (m : ℕ) : Type 0 where
   pub earlier : (n : ℕ) → 1 ≤ n → n < m → month_has_reached Final n v ≡ true
-  pub prices : is_fault (priced meaning v m) ≡ false
+  pub prices : is_fault (month_outcome meaning v m) ≡ false
   pub current : altered_line meaning v m ≡ None
 
 pub record Sound (meaning : Meaning) (v : View) : Type 0 where
@@ -74,11 +74,11 @@ record Touches (m : ℕ) (v w : View) : Type 0 where
   sums : (n l : ℕ) → n ≢ m → line_sum w.ledger n l ≡ line_sum v.ledger n l
 
 module _ (v : View) (m : ℕ) (low : 1 ≤ m) (ledger : List Entry) (same : (n l : ℕ) → n ≢ m → line_sum ledger n l ≡ line_sum v.ledger n l) where
-  touches_month : (alter : Month → Month) → Touches m v (in_month m alter (with_ledger ledger v))
+  touches_month : (alter : Month → Month) → Touches m v (with_month m alter (with_ledger ledger v))
   touches_month alter = record {
     point = refl;
     before = refl;
-    earlier = λ k here. sym (take-set-le k v.months (place m) (alter (month_at m v)) (omega arith));
+    earlier = λ k here. sym (take-set-le k v.months (month_index m) (alter (month_at m v)) (omega arith));
     others = altered_other v.months m alter low;
     sums = same;
   }
@@ -112,7 +112,7 @@ module _ (meaning : Meaning) (v : View) (sound : Sound meaning v) (opened : is_s
       (record {
         point = touches.point;
         before = touches.before;
-        peaks = peaks_from v w (place n) (touches.earlier (place n) (omega arith));
+        peaks = peaks_from v w (month_index n) (touches.earlier (month_index n) (omega arith));
         days = ap (λ month. month.days) month;
         readings = ap (λ month. month.readings) month;
         hours = ap (λ month. month.hours) month;
@@ -158,7 +158,7 @@ length_aged carried = length-map-range_with_len (λ i. get_or carried (ratchet -
 none_final : (v : View) (m : ℕ) → 1 ≤ m → v.months ≡ [] → month_has_reached Final m v ≡ true → ⊥
 none_final v m low none final = omega (arith, billed_there v m low (final_billed (month_at m v).state final), ap length none)
 
-opened_kept : (meaning : Meaning) (v : View) → Sound meaning v → (code : List ℕ) (contract substation : ℕ) (carried : List ℕ) → v.months ≡ [] → Kept meaning v (after meaning (opens code contract substation carried) v)
+opened_kept : (meaning : Meaning) (v : View) → Sound meaning v → (code : List ℕ) (contract substation : ℕ) (carried : List ℕ) → v.months ≡ [] → Kept meaning v (view_after meaning (opens code contract substation carried) v)
 opened_kept meaning v sound code contract substation carried none = record {
   sound = record {
     counted = length_aged carried;
@@ -171,27 +171,27 @@ opened_kept meaning v sound code contract substation carried none = record {
 }
 
 -- a month that is started touches its place alone
-started_kept : (meaning : Meaning) (v : View) → Sound meaning v → is_some v.point ≡ true → (days m : ℕ) → 1 ≤ m → place m ≡ length v.months → Kept meaning v (after meaning (starts days) v)
+started_kept : (meaning : Meaning) (v : View) → Sound meaning v → is_some v.point ≡ true → (days m : ℕ) → 1 ≤ m → month_index m ≡ length v.months → Kept meaning v (view_after meaning (starts days) v)
 started_kept meaning v sound opened days m low new =
-    let was = ap (λ month. month.state) (get_or_past v.months (place m) no_month (omega arith)) ∙ no_month_open in
-    let state = pushed_state v.months days (place m) ∙ was in
-    touched meaning v sound opened m low (ap (has_reached Final) was) (after meaning (starts days) v)
+    let was = ap (λ month. month.state) (get_or_past v.months (month_index m) no_month (omega arith)) ∙ no_month_open in
+    let state = pushed_state v.months days (month_index m) ∙ was in
+    touched meaning v sound opened m low (ap (has_reached Final) was) (view_after meaning (starts days) v)
     (record {
       point = refl;
       before = refl;
       earlier = λ k here. sym (take-append-le k v.months (new_month days ∷ []) (omega arith));
-      others = λ n some other. pushed_other v.months (new_month days) (place n) (λ e. other (omega arith));
+      others = λ n some other. pushed_other v.months (new_month days) (month_index n) (λ e. other (omega arith));
       sums = λ n l other. refl;
     })
-    (rw (get_or_push v.months (new_month days) no_month (place m) (sym new)) (fresh_shaped days))
+    (rw (get_or_push v.months (new_month days) no_month (month_index m) (sym new)) (fresh_shaped days))
     (λ l short. sound.unbilled m l low (ap (has_reached Billed) was))
-    (λ final. absurd (month_has_reached Final m (after meaning (starts days) v)) (ap (has_reached Final) state) final)
+    (λ final. absurd (month_has_reached Final m (view_after meaning (starts days) v)) (ap (has_reached Final) state) final)
 
 pub none_some : {X : Type 0} (o : Option X) → is_some o ≡ false → o ≡ None
 none_some None e = refl
 none_some (Some x) e = cc
 
-pub kept_after : (meaning : Meaning) (call : Call) (v : View) → Sound meaning v → refused meaning call v ≡ None → Kept meaning v (after meaning call v)
+pub kept_after : (meaning : Meaning) (call : Call) (v : View) → Sound meaning v → refusal_of meaning call v ≡ None → Kept meaning v (view_after meaning call v)
 kept_after meaning (opens code contract substation carried) v sound e =
     opened_kept meaning v sound code contract substation carried (sound.empty (opening meaning v code contract substation carried e))
 kept_after meaning (starts days) v sound e = started_kept meaning v sound (starting meaning v days e) days (length v.months + 1) (omega arith) (omega arith)
@@ -200,7 +200,7 @@ kept_after meaning (posts m post) v sound e =
     let low : 1 ≤ m = h.names.low in
     let month = altered_here v.months m (with_post post) low h.names.high in
     let state = ap (λ month. month.state) month ∙ post_state post (month_at m v) in
-    touched meaning v sound h.names.opened m low h.unsettled (after meaning (posts m post) v)
+    touched meaning v sound h.names.opened m low h.unsettled (view_after meaning (posts m post) v)
     (touches_month v m low v.ledger (λ n l other. refl) (with_post post))
     (rw month (post_shaped post (month_at m v) (sound.shaped m low)))
     (λ l short. sound.unbilled m l low (sym (ap (has_reached Billed) state) ∙ short))
@@ -210,7 +210,7 @@ kept_after meaning (bills m) v sound e =
     let low : 1 ≤ m = h.names.low in
     let month = altered_here v.months m (with_state Billed) low h.names.high in
     let state = ap (λ month. month.state) month in
-    touched meaning v sound h.names.opened m low (unbilled_unsettled (month_at m v).state h.unbilled) (after meaning (bills m) v)
+    touched meaning v sound h.names.opened m low (unbilled_unsettled (month_at m v).state h.unbilled) (view_after meaning (bills m) v)
     (touches_month v m low (v.ledger ++ bill_entries meaning v m) (written_elsewhere _ v.ledger m _) (with_state Billed))
     (rw month (sound.shaped m low))
     (λ l short. absurd (has_reached Billed Billed) (sym (ap (has_reached Billed) state) ∙ short) refl)
@@ -218,7 +218,7 @@ kept_after meaning (bills m) v sound e =
 kept_after meaning (trues_up m) v sound e =
     let h = truing meaning v m e in
     let low : 1 ≤ m = h.names.low in
-    touched meaning v sound h.names.opened m low h.unsettled (after meaning (trues_up m) v)
+    touched meaning v sound h.names.opened m low h.unsettled (view_after meaning (trues_up m) v)
     (touches_ledger v m low (v.ledger ++ true_up_entries meaning v m) (written_elsewhere _ v.ledger m _))
     (sound.shaped m low)
     (λ l short. absurd (month_has_reached Billed m v) short h.billed)
@@ -226,14 +226,14 @@ kept_after meaning (trues_up m) v sound e =
 kept_after meaning (finalises m) v sound e =
     let h = finalising meaning v m e in
     let low : 1 ≤ m = h.names.low in
-    let w = after meaning (finalises m) v in
+    let w = view_after meaning (finalises m) v in
     let month = altered_here v.months m (with_state Final) low h.names.high in
     let state = ap (λ month. month.state) month in
     let touches = touches_month v m low v.ledger (λ n l other. refl) (with_state Final) in
     let spared : Spared v m w = record {
       point = refl;
       before = refl;
-      peaks = peaks_from v w (place m) (touches.earlier (place m) (omega arith));
+      peaks = peaks_from v w (month_index m) (touches.earlier (month_index m) (omega arith));
       days = sym (ap (λ month. month.days) month);
       readings = sym (ap (λ month. month.readings) month);
       hours = sym (ap (λ month. month.hours) month);
@@ -246,15 +246,15 @@ kept_after meaning (finalises m) v sound e =
       prices = ap is_fault (sym (spared_priced v m w sound.counted spared meaning)) ∙ h.prices;
       current = sym (spared_altered v m w sound.counted spared meaning refl) ∙ none_some (altered_line meaning v m) h.current;
     })
-kept_after meaning (asks_due m) v sound e = unmoved meaning v sound
-kept_after meaning (asks_total m line) v sound e = unmoved meaning v sound
+kept_after meaning (asks (due m)) v sound e = unmoved meaning v sound
+kept_after meaning (asks (total m line)) v sound e = unmoved meaning v sound
 
 pub kept : (meaning : Meaning) (call : Call) (v : View) → Sound meaning v → Kept meaning v (step meaning call v)
 kept meaning call v sound =
     by_step meaning call v (λ w taken. Kept meaning v w) (unmoved meaning v sound) (kept_after meaning call v sound)
 
 -- over a run
-pub runs_kept : (meaning : Meaning) (calls : List Call) (v : View) → Sound meaning v → Kept meaning v (performed meaning calls v)
+pub runs_kept : (meaning : Meaning) (calls : List Call) (v : View) → Sound meaning v → Kept meaning v (view_after_run meaning calls v)
 runs_kept meaning [] v sound = unmoved meaning v sound
 runs_kept meaning (call ∷ calls) v sound =
     let once = kept meaning call v sound in

@@ -3,14 +3,14 @@ use Rattle.std.proofs.Common.{◌≡◌, ℕ, ◌≤◌, Bool, true, false, cond
 use Rattle.std.specs.List.{AllByRecursion}
 use Rattle.std.proofs.lemmas.Bool.{and_parts, leb-true, ltb-false, not-false}
 use Rattle.book.specs.Calls.{Call, Post, opens, starts, posts, bills, trues_up, finalises}
-use Rattle.book.specs.Steps.{after, step, taken}
-use Rattle.book.specs.Table.{Row, first_holding, is_blank, is_fault, refused, rows}
-use Rattle.book.specs.Views.{View, altered_line, month_has_reached, is_month, place, priced}
+use Rattle.book.specs.Steps.{view_after, step, view_unless}
+use Rattle.book.specs.Table.{Row, first_holding, is_blank, is_fault, refusal_of, rows}
+use Rattle.book.specs.Views.{View, altered_line, month_has_reached, is_month, month_index, month_outcome}
 use Rattle.store.specs.Months.{first_short}
-use Rattle.store.specs.declared.state.State.TheVariants.{Billed, Final}
+use Rattle.store.specs.declared.month.State.TheVariants.{Billed, Final}
 use Rattle.tariff.specs.Pricing.{Meaning}
 use Rattle.tariff.specs.declared.refusal.Refusal.{Refusal}
-use Rattle.audit.specs.Runs.{accepted}
+use Rattle.audit.specs.Runs.{is_accepted}
 
 row_passed : (holds : Bool) (refusal : Refusal) (rest : Option Refusal) → cond holds (Some refusal) rest ≡ None → (holds ≡ false) × (rest ≡ None)
 row_passed true refusal rest e = (cc, cc)
@@ -20,12 +20,12 @@ none_holds : (rows : List Row) → first_holding rows ≡ None → AllByRecursio
 none_holds [] e = tt
 none_holds (r ∷ rs) e = let passed = row_passed r.holds r.refusal (first_holding rs) e in (passed.0, none_holds rs passed.1)
 
-taken_or_not : (o : Option Refusal) (made v : View) (P : View → Bool → Type 0) → P v false → (o ≡ None → P made true) → P (taken o made v) (not (is_some o))
+taken_or_not : (o : Option Refusal) (made v : View) (P : View → Bool → Type 0) → P v false → (o ≡ None → P made true) → P (view_unless o made v) (not (is_some o))
 taken_or_not None made v P kept moved = moved refl
 taken_or_not (Some refusal) made v P kept moved = kept
 
-pub by_step : (meaning : Meaning) (call : Call) (v : View) (P : View → Bool → Type 0) → P v false → (refused meaning call v ≡ None → P (after meaning call v) true) → P (step meaning call v) (accepted meaning call v)
-by_step meaning call v = taken_or_not (refused meaning call v) (after meaning call v) v
+pub by_step : (meaning : Meaning) (call : Call) (v : View) (P : View → Bool → Type 0) → P v false → (refusal_of meaning call v ≡ None → P (view_after meaning call v) true) → P (step meaning call v) (is_accepted meaning call v)
+by_step meaning call v = taken_or_not (refusal_of meaning call v) (view_after meaning call v) v
 
 -- a month that was started, by its number
 pub month_there : (m : ℕ) (v : View) → is_month m v ≡ true → (1 ≤ m) × (m ≤ length v.months)
@@ -46,17 +46,17 @@ names m v opened e =
 
 -- what the rows of the calls say where none holds
 module _ (meaning : Meaning) (v : View) where
-  pub opening : (code : List ℕ) (contract substation : ℕ) (carried : List ℕ) → refused meaning (opens code contract substation carried) v ≡ None → is_some v.point ≡ false
+  pub opening : (code : List ℕ) (contract substation : ℕ) (carried : List ℕ) → refusal_of meaning (opens code contract substation carried) v ≡ None → is_some v.point ≡ false
   opening code contract substation carried e = (none_holds (rows meaning (opens code contract substation carried) v) e).0
 
-  pub starting : (days : ℕ) → refused meaning (starts days) v ≡ None → is_some v.point ≡ true
+  pub starting : (days : ℕ) → refusal_of meaning (starts days) v ≡ None → is_some v.point ≡ true
   starting days e = not-false (is_some v.point) (none_holds (rows meaning (starts days) v) e).0
 
   pub record Posting (m : ℕ) : Type 0 where
     pub names : Names m v
     pub unsettled : month_has_reached Final m v ≡ false
 
-  pub posting : (m : ℕ) (post : Post) → refused meaning (posts m post) v ≡ None → Posting m
+  pub posting : (m : ℕ) (post : Post) → refusal_of meaning (posts m post) v ≡ None → Posting m
   posting m post e =
       let h = none_holds (rows meaning (posts m post) v) e in
       record { names = names m v h.0 h.1.0; unsettled = h.1.1.0 }
@@ -64,9 +64,9 @@ module _ (meaning : Meaning) (v : View) where
   pub record Billing (m : ℕ) : Type 0 where
     pub names : Names m v
     pub unbilled : month_has_reached Billed m v ≡ false
-    pub prices : is_fault (priced meaning v m) ≡ false
+    pub prices : is_fault (month_outcome meaning v m) ≡ false
 
-  pub billing : (m : ℕ) → refused meaning (bills m) v ≡ None → Billing m
+  pub billing : (m : ℕ) → refusal_of meaning (bills m) v ≡ None → Billing m
   billing m e =
       let h = none_holds (rows meaning (bills m) v) e in
       record {
@@ -79,9 +79,9 @@ module _ (meaning : Meaning) (v : View) where
     pub names : Names m v
     pub unsettled : month_has_reached Final m v ≡ false
     pub billed : month_has_reached Billed m v ≡ true
-    pub prices : is_fault (priced meaning v m) ≡ false
+    pub prices : is_fault (month_outcome meaning v m) ≡ false
 
-  pub truing : (m : ℕ) → refused meaning (trues_up m) v ≡ None → Truing m
+  pub truing : (m : ℕ) → refusal_of meaning (trues_up m) v ≡ None → Truing m
   truing m e =
       let h = none_holds (rows meaning (trues_up m) v) e in
       record {
@@ -95,18 +95,18 @@ module _ (meaning : Meaning) (v : View) where
     pub names : Names m v
     pub unsettled : month_has_reached Final m v ≡ false
     pub billed : month_has_reached Billed m v ≡ true
-    pub earlier : place m ≤ first_short Final v.months (place m)
-    pub prices : is_fault (priced meaning v m) ≡ false
+    pub earlier : month_index m ≤ first_short Final v.months (month_index m)
+    pub prices : is_fault (month_outcome meaning v m) ≡ false
     pub current : is_some (altered_line meaning v m) ≡ false
 
-  pub finalising : (m : ℕ) → refused meaning (finalises m) v ≡ None → Finalising m
+  pub finalising : (m : ℕ) → refusal_of meaning (finalises m) v ≡ None → Finalising m
   finalising m e =
       let h = none_holds (rows meaning (finalises m) v) e in
       record {
         names = names m v h.0 h.1.0;
         unsettled = h.1.1.0;
         billed = not-false (month_has_reached Billed m v) h.1.1.1.0;
-        earlier = ltb-false (first_short Final v.months (place m)) (place m) h.1.1.1.1.0;
+        earlier = ltb-false (first_short Final v.months (month_index m)) (month_index m) h.1.1.1.1.0;
         prices = h.1.1.1.1.1.0;
         current = h.1.1.1.1.1.1.0;
       }

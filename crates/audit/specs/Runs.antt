@@ -1,54 +1,54 @@
 -- A run: calls performed on a book one after another, all under one schedule.
 use Rattle.std.specs.Prelude.{ℕ, Bool, false, cond, not, ◌&&◌, List, [], ◌∷◌, ◌++◌, is_some, Some, None, Option, ◌==◌}
-use Rattle.book.specs.Calls.{Call, opens, starts, posts, bills, trues_up, finalises, asks_due, asks_total}
+use Rattle.book.specs.Calls.{Call, opens, starts, posts, bills, trues_up, finalises, asks}
 use Rattle.book.specs.Steps.{step}
-use Rattle.book.specs.Table.{bill_entries, refused, true_up_entries}
+use Rattle.book.specs.Table.{bill_entries, refusal_of, true_up_entries}
 use Rattle.book.specs.Views.{View}
 use Rattle.ledger.specs.declared.entry.Entry.{Entry}
 use Rattle.tariff.specs.Pricing.{Meaning}
 
 -- what a book holds after the calls of a run, each refused or taken as the table has it
-abbrev pub performed : Meaning → List Call → View → View
-performed meaning [] v = v
-performed meaning (call ∷ calls) v = performed meaning calls (step meaning call v)
+abbrev pub view_after_run : Meaning → List Call → View → View
+view_after_run meaning [] v = v
+view_after_run meaning (call ∷ calls) v = view_after_run meaning calls (step meaning call v)
 
-abbrev pub accepted : Meaning → Call → View → Bool
-accepted meaning call v = not (is_some (refused meaning call v))
+abbrev pub is_accepted : Meaning → Call → View → Bool
+is_accepted meaning call v = not (is_some (refusal_of meaning call v))
 
 -- the entries that a call prescribes where it is accepted: a bill's and a true-up's, and no others
-abbrev pub prescribed : Meaning → Call → View → List Entry
-prescribed meaning (opens code contract substation carried) v = []
-prescribed meaning (starts days) v = []
-prescribed meaning (posts m post) v = []
-prescribed meaning (bills m) v = bill_entries meaning v m
-prescribed meaning (trues_up m) v = true_up_entries meaning v m
-prescribed meaning (finalises m) v = []
-prescribed meaning (asks_due m) v = []
-prescribed meaning (asks_total m line) v = []
+abbrev pub call_entries : Meaning → Call → View → List Entry
+call_entries meaning (opens code contract substation carried) v = []
+call_entries meaning (starts days) v = []
+call_entries meaning (posts m post) v = []
+call_entries meaning (bills m) v = bill_entries meaning v m
+call_entries meaning (trues_up m) v = true_up_entries meaning v m
+call_entries meaning (finalises m) v = []
+call_entries meaning (asks (due m)) v = []
+call_entries meaning (asks (total m line)) v = []
 
 -- all that the accepted calls of a run prescribe, in their order
-abbrev pub prescribed_by : Meaning → List Call → View → List Entry
-prescribed_by meaning [] v = []
-prescribed_by meaning (call ∷ calls) v =
-    cond (accepted meaning call v) (prescribed meaning call v) [] ++ prescribed_by meaning calls (step meaning call v)
+abbrev pub run_entries : Meaning → List Call → View → List Entry
+run_entries meaning [] v = []
+run_entries meaning (call ∷ calls) v =
+    cond (is_accepted meaning call v) (call_entries meaning call v) [] ++ run_entries meaning calls (step meaning call v)
 
 -- whether a call is a bill or a true-up of the month
-abbrev pub prices : ℕ → Call → Bool
-prices m (opens code contract substation carried) = false
-prices m (starts days) = false
-prices m (posts n post) = false
-prices m (bills n) = n == m
-prices m (trues_up n) = n == m
-prices m (finalises n) = false
-prices m (asks_due n) = false
-prices m (asks_total n line) = false
+abbrev pub is_pricing_of : ℕ → Call → Bool
+is_pricing_of m (opens code contract substation carried) = false
+is_pricing_of m (starts days) = false
+is_pricing_of m (posts n post) = false
+is_pricing_of m (bills n) = n == m
+is_pricing_of m (trues_up n) = n == m
+is_pricing_of m (finalises n) = false
+is_pricing_of m (asks (due n)) = false
+is_pricing_of m (asks (total n line)) = false
 
-abbrev pub or_else : {X : Type 0} → Option X → Option X → Option X
-or_else (Some x) other = Some x
-or_else None other = other
+abbrev pub option_or : {X : Type 0} → Option X → Option X → Option X
+option_or (Some x) other = Some x
+option_or None other = other
 
 -- what the book held when the month was last priced by an accepted bill or true-up of the run
-abbrev pub last_priced : Meaning → List Call → View → ℕ → Option View
-last_priced meaning [] v m = None
-last_priced meaning (call ∷ calls) v m =
-    or_else (last_priced meaning calls (step meaning call v) m) (cond (prices m call && accepted meaning call v) (Some v) None)
+abbrev pub view_at_pricing : Meaning → List Call → View → ℕ → Option View
+view_at_pricing meaning [] v m = None
+view_at_pricing meaning (call ∷ calls) v m =
+    option_or (view_at_pricing meaning calls (step meaning call v) m) (cond (is_pricing_of m call && is_accepted meaning call v) (Some v) None)

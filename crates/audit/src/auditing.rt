@@ -2,7 +2,7 @@
 ghost use Rattle.std.specs.Prelude.{length};
 ghost use Rattle.book.specs.Books.{view};
 ghost use Rattle.book.specs.Calls.{Call};
-ghost use Rattle.book.specs.Table.{InOrder, rows};
+ghost use Rattle.book.specs.Table.{IsInOrder, rows};
 ghost use Rattle.book.specs.Views.{View};
 ghost use Rattle.audit.specs.Laws.{Promise};
 ghost use Rattle.audit.specs.Requests.{Made, capacity};
@@ -28,7 +28,7 @@ pub fn audit<'a, 'd, S: Schedule, A: Analyst<'d>>(
     turns: usize,
 ) -> Book<'a>
     ensures made { Made A.chooses (S.meaning schedule.now) turns analyst.old (capacity (length quarters.old) (length hours.old)) (length entries.old) analyst.new (view result) }
-    ensures ordered { (call : Call) (v : View) → InOrder (rows (S.meaning schedule.now) call v) }
+    ensures ordered { (call : Call) (v : View) → IsInOrder (rows (S.meaning schedule.now) call v) }
     ensures promise { Promise (S.meaning schedule.now) }
 {
     let mut book = Book::new(quarters, hours, entries);

@@ -2,21 +2,21 @@
 use Rattle.std.proofs.Common.{◌≡◌, ℕ, ◌+◌, ◌<◌, ◌≤◌, Bool, true, false, not, List, [], ◌∷◌, ◌++◌, is_some, IsErrAnd, Some, None, Ok, Err, Option, Result, sym, refl, ap, ◌∙◌, arith}
 use Rattle.std.specs.List.{AllByRecursion}
 use Rattle.std.proofs.lemmas.Result.{err_from_is_err_and}
-use Rattle.std.proofs.lemmas.Bool.{and_parts, cond-true, cond-false, false≢true, le-ltb, leb-true, lt-ltb}
+use Rattle.std.proofs.lemmas.Bool.{and_parts, cond-true, cond-false, le-ltb, leb-true, lt-ltb}
 use Rattle.ledger.specs.declared.entry.Entry.{Entry}
 use Rattle.store.specs.Months.{Month, first_short, has_reached}
-use Rattle.store.specs.declared.state.State.{State}
+use Rattle.store.specs.declared.month.State.{State}
 use Rattle.tariff.specs.Pricing.{Meaning}
 use Rattle.tariff.specs.declared.refusal.Refusal.{Refusal}
 use Rattle.tariff.specs.declared.refusal.Refusal.TheVariants.{EarlierMonth}
-use Rattle.book.specs.Books.{Performs, Unaltered, view}
-use Rattle.book.specs.Calls.{Call, Post, Reply, posts}
-use Rattle.book.specs.Found.{InBook, IsClosed, NotFinal}
-use Rattle.book.specs.Steps.{after, answer, answered, reply, taken}
-use Rattle.book.specs.Table.{Row, blank_book, earlier_short, first_holding, month_final, no_such_month, post_rows, refused}
-use Rattle.book.specs.Views.{Opened, View, month_has_reached, place}
+use Rattle.book.specs.Books.{Performs, IsUnaltered, view}
+use Rattle.book.specs.Calls.{Call, Reply}
+use Rattle.book.specs.NamedMonths.{IsInBook, IsChangeable}
+use Rattle.book.specs.Steps.{view_after, answer, reply_unless, reply, view_unless}
+use Rattle.book.specs.Table.{Row, blank_book, earlier_short, first_holding, month_final, no_such_month, refusal_of}
+use Rattle.book.specs.Views.{BilledPoint, View, month_has_reached, month_index}
 use Rattle.book.specs.declared.book.Book.{Book}
-use Rattle.book.specs.declared.found.Found.{Found}
+use Rattle.book.specs.declared.book.NamedMonth.{NamedMonth}
 
 -- a row that does not hold is passed over, one that does refuses
 pub pass : (row : Row) (rows : List Row) (o : Option Refusal) → row.holds ≡ false → first_holding rows ≡ o → first_holding (row ∷ rows) ≡ o
@@ -35,74 +35,69 @@ first_holds [] held after all is = here held after is
 first_holds (row ∷ before) held after all is = pass row (before ++ held ∷ after) _ all.0 (first_holds before held after all.1 is)
 
 module _ (meaning : Meaning) (call : Call) (book book' : Book) where
-  pub is_refused : (refusal : Refusal) → refused meaning call (view book) ≡ Some refusal → Unaltered book book' → view book' ≡ view book → Performs meaning call book (Err refusal) book'
+  pub is_refused : (refusal : Refusal) → refusal_of meaning call (view book) ≡ Some refusal → IsUnaltered book book' → view book' ≡ view book → Performs meaning call book (Err refusal) book'
   is_refused refusal by same seen = record {
-    answers = sym (ap (λ o. answered o (reply meaning call (view book))) by);
-    leaves = seen ∙ sym (ap (λ o. taken o (after meaning call (view book)) (view book)) by);
-    keeps = λ _. same;
+    answers = sym (ap (λ o. reply_unless o (reply meaning call (view book))) by);
+    leaves = seen ∙ sym (ap (λ o. view_unless o (view_after meaning call (view book)) (view book)) by);
+    keeps = same;
   }
 
-  pub is_taken : (r : Reply call) → refused meaning call (view book) ≡ None → r ≡ reply meaning call (view book) → view book' ≡ after meaning call (view book) → Performs meaning call book (Ok r) book'
+  pub is_taken : (r : Reply call) → refusal_of meaning call (view book) ≡ None → r ≡ reply meaning call (view book) → view book' ≡ view_after meaning call (view book) → Performs meaning call book (Ok r) book'
   is_taken r by replied made = record {
-    answers = ap Ok replied ∙ sym (ap (λ o. answered o (reply meaning call (view book))) by);
-    leaves = made ∙ sym (ap (λ o. taken o (after meaning call (view book)) (view book)) by);
-    keeps = λ no. absurd (false≢true no);
+    answers = ap Ok replied ∙ sym (ap (λ o. reply_unless o (reply meaning call (view book))) by);
+    leaves = made ∙ sym (ap (λ o. view_unless o (view_after meaning call (view book)) (view book)) by);
+    keeps = tt;
   }
 
 -- the exit of a `?`, before anything was altered
 module _ (meaning : Meaning) (call : Call) (book : Book) (r : Result (Reply call) Refusal) (refusal : Refusal) (is : IsErrAnd r (λ e. e ≡ refusal)) where
-  pub is_refused_by : refused meaning call (view book) ≡ Some refusal → Performs meaning call book r book
+  pub is_refused_by : refusal_of meaning call (view book) ≡ Some refusal → Performs meaning call book r book
   is_refused_by by =
       let p = err_from_is_err_and r is in
       rw p.1 (is_refused meaning call book book p.0 (by ∙ ap Some (sym p.2)) (refl, refl, refl) refl)
 
--- a post to a month that is not there or final
-pub post_is_refused : (meaning : Meaning) (m : ℕ) (post : Post) (book : Book) (r : Result (Unit {0}) Refusal) (refusal : Refusal) → IsErrAnd r (λ e. e ≡ refusal) → IsClosed m (view book) refusal → Performs meaning (posts m post) book r book
-post_is_refused meaning m post book r refusal is closed =
-    is_refused_by meaning (posts m post) book r refusal is (closed (post_rows m post (view book)))
-
 -- a month that was found passes the rows that every call with a month begins with
-module _ (m : ℕ) (v : View) (found : Found) where
-  pub in_book_passes : InBook m v found → (rows : List Row) → first_holding (blank_book m v ∷ no_such_month m v ∷ rows) ≡ first_holding rows
+module _ (m : ℕ) (v : View) (found : NamedMonth) where
+  pub in_book_passes : IsInBook m v found → (rows : List Row) → first_holding (blank_book m v ∷ no_such_month m v ∷ rows) ≡ first_holding rows
   in_book_passes is rows =
-      pass (blank_book m v) (no_such_month m v ∷ rows) _ (ap (λ point. not (is_some point)) is.point) (pass (no_such_month m v) rows _ (ap not is.month) refl)
+      pass (blank_book m v) (no_such_month m v ∷ rows) _ (ap (λ point. not (is_some point)) is.point) (pass (no_such_month m v) rows _ (ap not is.started) refl)
 
-  pub not_final_passes : NotFinal m v found → (rows : List Row) → first_holding (blank_book m v ∷ no_such_month m v ∷ month_final m v ∷ rows) ≡ first_holding rows
+  pub not_final_passes : IsChangeable m v found → (rows : List Row) → first_holding (blank_book m v ∷ no_such_month m v ∷ month_final m v ∷ rows) ≡ first_holding rows
   not_final_passes is rows = in_book_passes is.0 (month_final m v ∷ rows) ∙ pass (month_final m v) rows _ is.1 refl
 
 -- a call that changes nothing
 module _ (meaning : Meaning) (call : Call) (book : Book) where
-  pub answers_refused : (r : Result (Reply call) Refusal) (refusal : Refusal) → IsErrAnd r (λ e. e ≡ refusal) → refused meaning call (view book) ≡ Some refusal → r ≡ answer meaning call (view book)
+  pub answers_refused : (r : Result (Reply call) Refusal) (refusal : Refusal) → IsErrAnd r (λ e. e ≡ refusal) → refusal_of meaning call (view book) ≡ Some refusal → r ≡ answer meaning call (view book)
   answers_refused r refusal is by = (is_refused_by meaning call book r refusal is by).answers
 
-  pub answers_taken : (r : Reply call) → refused meaning call (view book) ≡ None → r ≡ reply meaning call (view book) → Ok r ≡ answer meaning call (view book)
-  answers_taken r by replied = ap Ok replied ∙ sym (ap (λ o. answered o (reply meaning call (view book))) by)
+  pub answers_taken : (r : Reply call) → refusal_of meaning call (view book) ≡ None → r ≡ reply meaning call (view book) → Ok r ≡ answer meaning call (view book)
+  answers_taken r by replied = ap Ok replied ∙ sym (ap (λ o. reply_unless o (reply meaning call (view book))) by)
 
 -- two views, part by part
-module _ {point point' : Option Opened} {before before' : List ℕ} {months months' : List Month} {ledger ledger' : List Entry} {capacity capacity' room room' : ℕ} where
+module _ {point point' : Option BilledPoint} {before before' : List ℕ} {months months' : List Month} {ledger ledger' : List Entry} {capacity capacity' room room' : ℕ} where
   pub same_view : point ≡ point' → before ≡ before' → months ≡ months' → ledger ≡ ledger' → capacity ≡ capacity' → room ≡ room' → ◌≡◌ {A = View} (record { point = point; before = before; months = months; ledger = ledger; capacity = capacity; room = room }) (record { point = point'; before = before'; months = months'; ledger = ledger'; capacity = capacity'; room = room' })
   same_view p b m l c r = λ i. record { point = p i; before = b i; months = m i; ledger = l i; capacity = c i; room = r i }
 
 -- entries have the month's number, its place and one
-pub numbered : (m : ℕ) (v : View) (found : Found) → InBook m v found → found.number ≡ found.at + 1
-numbered m v found is = omega (arith, is.number, is.at, leb-true 1 m (and_parts _ _ is.month).0)
+pub numbered : (m : ℕ) (v : View) (found : NamedMonth) → IsInBook m v found → found.number ≡ found.index + 1
+numbered m v found is = omega (arith, is.number, is.index, leb-true 1 m (and_parts _ _ is.started).0)
 
 -- the state that a call found the month in
-module _ (m : ℕ) (v : View) (found : Found) (is : InBook m v found) (state : State) (told : Bool) (test : told ≡ has_reached state found.state) where
+module _ (m : ℕ) (v : View) (found : NamedMonth) (is : IsInBook m v found) (state : State) (told : Bool) (test : told ≡ has_reached state found.state) where
   pub found_state : month_has_reached state m v ≡ told
   found_state = ap (has_reached state) (sym is.state) ∙ sym test
 
 -- what refuses the month that was found refuses the one that the caller named
-pub short_named : (m : ℕ) (v : View) (found : Found) → InBook m v found → (state : State) (refusal : Refusal) → ((earlier_short state found.month v).holds ≡ true) × (refusal ≡ (earlier_short state found.month v).refusal) → ((earlier_short state m v).holds ≡ true) × (refusal ≡ (earlier_short state m v).refusal)
-short_named m v found is state refusal short = rw is.named at short
+pub short_named : (m : ℕ) (v : View) (found : NamedMonth) → IsInBook m v found → (state : State) (refusal : Refusal) → ((earlier_short state found.month v).holds ≡ true) × (refusal ≡ (earlier_short state found.month v).refusal) → ((earlier_short state m v).holds ≡ true) × (refusal ≡ (earlier_short state m v).refusal)
+short_named m v found is state refusal short = rw is.month at short
 
 -- the lowest of the earlier months that is short of a state
-module _ (m : ℕ) (v : View) (found : Found) (is : InBook m v found) (state : State) (short : ℕ) (counted : short ≡ first_short state v.months found.at) where
-  same_short : short ≡ first_short state v.months (place m)
-  same_short = counted ∙ ap (first_short state v.months) is.at
+module _ (m : ℕ) (v : View) (found : NamedMonth) (is : IsInBook m v found) (state : State) (short : ℕ) (counted : short ≡ first_short state v.months found.index) where
+  same_short : short ≡ first_short state v.months (month_index m)
+  same_short = counted ∙ ap (first_short state v.months) is.index
 
-  pub none_short : found.at ≤ short → (earlier_short state m v).holds ≡ false
-  none_short all = le-ltb (first_short state v.months (place m)) (place m) (omega (arith, same_short, is.at))
+  pub none_short : found.index ≤ short → (earlier_short state m v).holds ≡ false
+  none_short all = le-ltb (first_short state v.months (month_index m)) (month_index m) (omega (arith, same_short, is.index))
 
-  pub one_short : short < found.at → ((earlier_short state m v).holds ≡ true) × (EarlierMonth m (short + 1) ≡ (earlier_short state m v).refusal)
-  one_short less = (lt-ltb (first_short state v.months (place m)) (place m) (omega (arith, same_short, is.at)), ap (λ n. EarlierMonth m (n + 1)) same_short)
+  pub one_short : short < found.index → ((earlier_short state m v).holds ≡ true) × (EarlierMonth m (short + 1) ≡ (earlier_short state m v).refusal)
+  one_short less = (lt-ltb (first_short state v.months (month_index m)) (month_index m) (omega (arith, same_short, is.index)), ap (λ n. EarlierMonth m (n + 1)) same_short)

@@ -11,7 +11,7 @@ use Rattle.ledger.specs.declared.entry.EntryKind.{EntryKind}
 use Rattle.ledger.specs.declared.entry.EntryKind.TheVariants.{Bill, TrueUp}
 use Rattle.ledger.proofs.Sums.{differences_none, get_or_sums, length_sums, written_other_month}
 use Rattle.store.specs.Months.{Month, months_with, new_month, no_month, has_reached, with_state}
-use Rattle.store.specs.declared.state.State.TheVariants.{Billed}
+use Rattle.store.specs.declared.month.State.TheVariants.{Billed}
 use Rattle.tariff.specs.Limits.{line_count}
 
 abbrev pub Unbilled : List Month → List Entry → Type 0

@@ -1,22 +1,22 @@
 -- What a book in memory holds, and what a call makes of it.
-use Rattle.std.specs.Prelude.{◌≡◌, true, is_err, Some, None, Option, Result}
+use Rattle.std.specs.Prelude.{◌≡◌, OnErr, Some, None, Option, Result}
 use Rattle.ledger.specs.Ledgers.{entries_of, room_of}
 use Rattle.store.specs.Stores.{earlier_peaks_of, capacity_of, months_of}
 use Rattle.tariff.specs.Pricing.{Meaning}
 use Rattle.tariff.specs.declared.refusal.Refusal.{Refusal}
 use Rattle.book.specs.Calls.{Call, Reply}
 use Rattle.book.specs.Steps.{answer, step}
-use Rattle.book.specs.Views.{Opened, View}
+use Rattle.book.specs.Views.{BilledPoint, View}
 use Rattle.book.specs.declared.book.Book.{Book}
 use Rattle.book.specs.declared.point.Point.{Point}
 
-abbrev pub opened_of : Option Point → Option Opened
-opened_of (Some point) = Some (record { code = point.code; contract = point.contract; substation = point.substation })
-opened_of None = None
+abbrev pub point_of : Option Point → Option BilledPoint
+point_of (Some point) = Some (record { code = point.code; contract = point.contract; substation = point.substation })
+point_of None = None
 
 abbrev pub view : Book → View
 view book = record {
-  point = opened_of book.point;
+  point = point_of book.point;
   before = earlier_peaks_of book.store;
   months = months_of book.store;
   ledger = entries_of book.ledger;
@@ -25,8 +25,8 @@ view book = record {
 }
 
 -- the same point, months and entries, with every record of the lent memory
-abbrev pub Unaltered : Book → Book → Type 0
-Unaltered book book' = (book'.point ≡ book.point) × (book'.store ≡ book.store) × (book'.ledger ≡ book.ledger)
+abbrev pub IsUnaltered : Book → Book → Type 0
+IsUnaltered book book' = (book'.point ≡ book.point) × (book'.store ≡ book.store) × (book'.ledger ≡ book.ledger)
 
 -- what a call that changes nothing answers
 abbrev pub Answers : Meaning → (call : Call) → Book → Result (Reply call) Refusal → Type 0
@@ -36,4 +36,4 @@ Answers meaning call book r = r ≡ answer meaning call (view book)
 pub record Performs (meaning : Meaning) (call : Call) (book : Book) (r : Result (Reply call) Refusal) (book' : Book) : Type 0 where
   pub answers : r ≡ answer meaning call (view book)
   pub leaves : view book' ≡ step meaning call (view book)
-  pub keeps : is_err r ≡ true → Unaltered book book'
+  pub keeps : OnErr r (IsUnaltered book book')

@@ -1,7 +1,10 @@
 pub mod Books
 pub mod Calls
-pub mod Found
+pub mod Memories
+pub mod NamedMonths
 pub mod OnFile
+pub mod Posts
+pub mod Requests
 pub mod Steps
 pub mod Table
 pub mod Texts

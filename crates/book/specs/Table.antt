@@ -1,12 +1,14 @@
 -- The refusal table: for each call its rows, the uppermost first. A call is refused by the first row that holds.
-use Rattle.std.specs.Prelude.{ℕ, ◌+◌, ◌-◌, ◌<◌, Bool, true, false, cond, not, ◌&&◌, List, [], ◌∷◌, map, length, is_some, Some, None, Ok, Err, Option, nat_le, nat_lt}
+use Rattle.std.specs.Prelude.{ℕ, ◌+◌, ◌-◌, ◌<◌, Bool, true, false, not, ◌&&◌, List, [], ◌∷◌, map, length, is_some, Some, None, Ok, Err, Option, nat_le, nat_lt, if◌then◌else◌}
 use Rattle.std.specs.Str.{bytes_eq}
 use Rattle.ledger.specs.Entries.{differences, entries_for}
 use Rattle.ledger.specs.declared.entry.Entry.{Entry}
 use Rattle.ledger.specs.declared.entry.EntryKind.TheVariants.{Bill, TrueUp}
-use Rattle.store.specs.Months.{can_carry, day_fault, first_short, hours_of, missing, price_within, quarters_of, reading_within, scheduled_within}
-use Rattle.store.specs.declared.state.State.{State}
-use Rattle.store.specs.declared.state.State.TheVariants.{Billed, Final}
+use Rattle.store.specs.Months.{can_carry, first_short, missing}
+use Rattle.store.specs.Posts.{day_fault, post_places, post_within}
+use Rattle.store.specs.declared.month.TheConstants.{LEAST_DAYS, MOST_DAYS}
+use Rattle.store.specs.declared.month.State.{State}
+use Rattle.store.specs.declared.month.State.TheVariants.{Billed, Final}
 use Rattle.tariff.specs.Limits.{most_demand, line_count}
 use Rattle.tariff.specs.Pricing.{Meaning, Outcome}
 use Rattle.tariff.specs.Refusals.{numbers_of}
@@ -14,8 +16,10 @@ use Rattle.tariff.specs.declared.line.Line.TheVariants.{SystemDemand}
 use Rattle.tariff.specs.declared.refusal.Fault.{Fault}
 use Rattle.tariff.specs.declared.refusal.Refusal.{Refusal}
 use Rattle.tariff.specs.declared.refusal.Refusal.TheVariants.{BookBlank, BookOpen, OpeningOutside, NoMonthFree, DaysOutside, NoSuchMonth, MonthFinal, NoSuchPlace, OtherPoint, OutsideLimit, Missing, MonthBilled, MonthOpen, EarlierMonth, LinePastLimit, LedgerFull, MonthDue}
-use Rattle.book.specs.Calls.{Call, opens, starts, posts, bills, trues_up, finalises, asks_due, asks_total, Post, reading, day, price, scheduled}
-use Rattle.book.specs.Views.{View, Opened, altered_line, amounts_in, month_has_reached, is_month, month_at, place, priced, sums_of}
+use Rattle.store.specs.declared.post.Post.{Post}
+use Rattle.store.specs.declared.post.Reading.{Reading}
+use Rattle.book.specs.Calls.{Call, opens, starts, posts, posts_day, bills, trues_up, finalises, asks, Question, due, total}
+use Rattle.book.specs.Views.{View, BilledPoint, altered_line, amounts_in, month_has_reached, is_month, month_at, month_index, month_outcome, sums_of}
 
 pub record Row : Type 0 where
   pub holds : Bool
@@ -24,10 +28,10 @@ pub record Row : Type 0 where
 abbrev pub row : Bool → Refusal → Row
 row holds refusal = record { holds = holds; refusal = refusal }
 
--- a place that is named only where there is one
-abbrev pub named : Option ℕ → ℕ
-named (Some n) = n
-named None = 0
+-- the place of a row that holds only where there is one
+abbrev pub place_in : Option ℕ → ℕ
+place_in (Some place) = place
+place_in None = 0
 
 abbrev pub is_fault : Outcome → Bool
 is_fault (Ok cents) = false
@@ -42,26 +46,26 @@ abbrev pub is_blank : View → Bool
 is_blank v = not (is_some v.point)
 
 -- whether a code is that of the point
-abbrev pub is_of : List ℕ → Option Opened → Bool
-is_of code (Some point) = bytes_eq code point.code
-is_of code None = false
+abbrev pub is_code_of : List ℕ → Option BilledPoint → Bool
+is_code_of code (Some point) = bytes_eq code point.code
+is_code_of code None = false
 
 abbrev pub opening_within : ℕ → ℕ → List ℕ → Bool
 opening_within contract substation carried =
     nat_le 1 contract && (nat_le contract substation && (nat_le substation most_demand && can_carry carried))
 
 abbrev pub days_within : ℕ → Bool
-days_within days = nat_le 28 days && nat_le days 31
+days_within days = nat_le LEAST_DAYS days && nat_le days MOST_DAYS
 
-abbrev pub free : View → ℕ
-free v = v.room - length v.ledger
+abbrev pub free_entries : View → ℕ
+free_entries v = v.room - length v.ledger
 
 -- the entries that a bill and a true-up of a month write
 abbrev pub bill_entries : Meaning → View → ℕ → List Entry
-bill_entries meaning v m = entries_for Bill m (amounts_in (priced meaning v m))
+bill_entries meaning v m = entries_for Bill m (amounts_in (month_outcome meaning v m))
 
 abbrev pub true_up_entries : Meaning → View → ℕ → List Entry
-true_up_entries meaning v m = entries_for TrueUp m (differences (amounts_in (priced meaning v m)) (sums_of v m))
+true_up_entries meaning v m = entries_for TrueUp m (differences (amounts_in (month_outcome meaning v m)) (sums_of v m))
 
 -- the rows that several calls share, each with the month that the call names
 abbrev pub blank_book : ℕ → View → Row
@@ -79,38 +83,33 @@ month_open m v = row (not (month_has_reached Billed m v)) (MonthOpen m)
 -- the lowest of the earlier months that has not reached a state
 abbrev pub earlier_short : State → ℕ → View → Row
 earlier_short state m v =
-    let short = first_short state v.months (place m) in row (nat_lt short (place m)) (EarlierMonth m (short + 1))
+    let short = first_short state v.months (month_index m) in row (nat_lt short (month_index m)) (EarlierMonth m (short + 1))
 
 abbrev pub past_limit : Meaning → ℕ → View → Row
-past_limit meaning m v = row (is_fault (priced meaning v m)) (LinePastLimit m (fault_in (priced meaning v m)))
+past_limit meaning m v = row (is_fault (month_outcome meaning v m)) (LinePastLimit m (fault_in (month_outcome meaning v m)))
 
 abbrev pub too_few : List Entry → ℕ → View → Row
-too_few entries m v = row (nat_lt (free v) (length entries)) (LedgerFull m (free v))
+too_few entries m v = row (nat_lt (free_entries v) (length entries)) (LedgerFull m (free_entries v))
 
 -- the rows of a post that are its own
-abbrev pub post_rows : ℕ → Post → View → List Row
-post_rows m (reading quarter posted) v =
-    row (nat_le (quarters_of (month_at m v).days) quarter) (NoSuchPlace m quarter)
-    ∷ row (not (reading_within posted)) (OutsideLimit m 0)
+abbrev pub post_rows : ℕ → ℕ → Post → View → List Row
+post_rows m place post v =
+    row (nat_le (post_places post (month_at m v).days) place) (NoSuchPlace m place)
+    ∷ row (not (post_within post)) (OutsideLimit m 0)
     ∷ []
-post_rows m (day d code readings) v =
-    row (nat_le (month_at m v).days d) (NoSuchPlace m d)
-    ∷ row (not (is_of code v.point)) (OtherPoint m)
-    ∷ row (is_some (day_fault readings)) (OutsideLimit m (named (day_fault readings)))
-    ∷ []
-post_rows m (price hour cents) v =
-    row (nat_le (hours_of (month_at m v).days) hour) (NoSuchPlace m hour)
-    ∷ row (not (price_within cents)) (OutsideLimit m 0)
-    ∷ []
-post_rows m (scheduled hour kw) v =
-    row (nat_le (hours_of (month_at m v).days) hour) (NoSuchPlace m hour)
-    ∷ row (not (scheduled_within kw)) (OutsideLimit m 0)
+
+-- a day's readings have the code of their point
+abbrev pub day_rows : ℕ → ℕ → List ℕ → List Reading → View → List Row
+day_rows m day code readings v =
+    row (nat_le (month_at m v).days day) (NoSuchPlace m day)
+    ∷ row (not (is_code_of code v.point)) (OtherPoint m)
+    ∷ row (is_some (day_fault readings)) (OutsideLimit m (place_in (day_fault readings)))
     ∷ []
 
 -- the rows of the other calls that follow those for the month
 abbrev pub bill_rows : Meaning → ℕ → View → List Row
 bill_rows meaning m v =
-    row (is_some (missing (month_at m v))) (Missing m (named (missing (month_at m v))))
+    row (is_some (missing (month_at m v))) (Missing m (place_in (missing (month_at m v))))
     ∷ row (month_has_reached Billed m v) (MonthBilled m)
     ∷ earlier_short Billed m v
     ∷ past_limit meaning m v
@@ -129,7 +128,7 @@ finalise_rows meaning m v =
     month_open m v
     ∷ earlier_short Final m v
     ∷ past_limit meaning m v
-    ∷ row (is_some (altered_line meaning v m)) (MonthDue m (named (altered_line meaning v m)))
+    ∷ row (is_some (altered_line meaning v m)) (MonthDue m (place_in (altered_line meaning v m)))
     ∷ []
 
 abbrev pub due_rows : Meaning → ℕ → View → List Row
@@ -144,6 +143,11 @@ total_rows m line v =
     ∷ month_open m v
     ∷ []
 
+-- the rows of a question, the uppermost first
+abbrev pub question_rows : Meaning → Question → View → List Row
+question_rows meaning (due m) v = blank_book m v ∷ no_such_month m v ∷ due_rows meaning m v
+question_rows meaning (total m line) v = blank_book m v ∷ no_such_month m v ∷ total_rows m line v
+
 -- a call's rows, the uppermost first; calls that name a month begin alike
 abbrev pub rows : Meaning → Call → View → List Row
 rows meaning (opens code contract substation carried) v =
@@ -155,27 +159,28 @@ rows meaning (starts days) v =
     ∷ row (nat_le v.capacity (length v.months)) NoMonthFree
     ∷ row (not (days_within days)) DaysOutside
     ∷ []
-rows meaning (posts m post) v = blank_book m v ∷ no_such_month m v ∷ month_final m v ∷ post_rows m post v
+rows meaning (posts m place post) v =
+    blank_book m v ∷ no_such_month m v ∷ month_final m v ∷ post_rows m place post v
+rows meaning (posts_day m day code readings) v =
+    blank_book m v ∷ no_such_month m v ∷ month_final m v ∷ day_rows m day code readings v
 rows meaning (bills m) v = blank_book m v ∷ no_such_month m v ∷ bill_rows meaning m v
 rows meaning (trues_up m) v = blank_book m v ∷ no_such_month m v ∷ month_final m v ∷ true_up_rows meaning m v
 rows meaning (finalises m) v = blank_book m v ∷ no_such_month m v ∷ month_final m v ∷ finalise_rows meaning m v
-rows meaning (asks_due m) v = blank_book m v ∷ no_such_month m v ∷ due_rows meaning m v
-rows meaning (asks_total m line) v = blank_book m v ∷ no_such_month m v ∷ total_rows m line v
+rows meaning (asks question) v = question_rows meaning question v
 
 -- the first row that holds
 abbrev pub first_holding : List Row → Option Refusal
 first_holding [] = None
-first_holding (r ∷ rs) = cond r.holds (Some r.refusal) (first_holding rs)
+first_holding (r ∷ rs) = if r.holds then Some r.refusal else first_holding rs
 
 -- what refuses a call, if anything does
-abbrev pub refused : Meaning → Call → View → Option Refusal
-refused meaning call v = first_holding (rows meaning call v)
+abbrev pub refusal_of : Meaning → Call → View → Option Refusal
+refusal_of meaning call v = first_holding (rows meaning call v)
 
 -- the rows of every call stand in the order of their numbers, so it is one table
-abbrev pub Rising : List ℕ → Type 0
-Rising [] = Unit {0}
-Rising (n ∷ []) = Unit {0}
-Rising (n ∷ (m ∷ more)) = (n < m) × Rising (m ∷ more)
+abbrev pub IsRising : List ℕ → Type 0
+IsRising (n ∷ (m ∷ more)) = (n < m) × IsRising (m ∷ more)
+IsRising _ = Unit {0}
 
-abbrev pub InOrder : List Row → Type 0
-InOrder of_call = Rising (map (λ r. (numbers_of r.refusal).number) of_call)
+abbrev pub IsInOrder : List Row → Type 0
+IsInOrder of_call = IsRising (map (λ r. (numbers_of r.refusal).number) of_call)

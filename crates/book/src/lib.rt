@@ -1,18 +1,21 @@
-// The book: months in their order, a ledger, and the calls of an analyst.
+//! The book of one point: months in their order, a ledger, and the calls of an analyst, each also as
+//! a value. One table says what refuses a call.
 
 #![tactic(auto)]
 
 mod billing;
 mod book;
-mod finding;
-mod found;
-mod month;
-mod on_file;
+mod calls;
+mod memory;
 mod opening;
 mod point;
 mod posts;
-mod pricing;
 mod reports;
+mod request;
 
 pub use book::Book;
-pub use month::MonthOnFile;
+pub use calls::perform;
+pub use memory::BookMemory;
+pub use point::{NotPointCode, PointCode};
+pub use reports::MonthOnFile;
+pub use request::{Answer, Request};

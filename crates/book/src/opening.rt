@@ -1,42 +1,27 @@
-// Making a book, opening it for a point, and starting its months.
-ghost use Rattle.std.specs.Prelude.{◌≡◌, ◌/◌, min, length};
+// Opening a book for its point, and starting its months.
+ghost use Rattle.std.specs.Prelude.{◌≡◌};
 ghost use Rattle.tariff.specs.Pricing.{Meaning};
-ghost use Rattle.book.specs.Books.{Performs, view};
-ghost use Rattle.book.specs.Calls.{opens, starts};
-ghost use Rattle.book.specs.Views.{blank};
 
 use crate::book::Book;
-use crate::point::Point;
-use ledger::{Entry, Ledger};
-use store::{Hour, Quarter, Store};
+use crate::point::{Point, PointCode};
 use tariff::{MOST_DEMAND, Refusal};
 
-impl<'a> Book<'a> {
-    // A blank book over lent memory. Whatever stands in the memory is never taken for a post.
-    pub fn new(
-        quarters: &'a mut [Quarter],
-        hours: &'a mut [Hour],
-        entries: &'a mut [Entry],
-    ) -> Book<'a>
-        ensures { view result ≡ blank (min 48 (min (length quarters.old / 2976) (length hours.old / 744))) (length entries.old) }
-    {
-        Book {
-            point: None,
-            store: Store::new(quarters, hours),
-            ledger: Ledger::new(entries),
-        }
-    }
+impl Book<'_> {
+    ghost use Rattle.book.specs.Books.{Performs};
+    ghost use Rattle.book.specs.Calls.{opens, starts};
 
-    // For a point: its code, contract and substation total in kW, and the peaks of the months
-    // before month 1, the latest first.
+    /// Opens a blank book for a point: its code, its contract and its substation total in kW, with
+    /// 1 ≤ contract ≤ substation ≤ 1,000,000, and the peaks in kW of the months before month 1, the
+    /// latest first, 24 at the most.
     pub fn open(
         &mut self,
-        code: [u8; 8],
+        code: PointCode,
         contract: u32,
         substation: u32,
         carried: &[u32],
     ) -> Result<(), Refusal>
-        ensures { (meaning : Meaning) → Performs meaning (opens code contract substation carried.now) self.old result self.new }
+        ensures { (meaning : Meaning)
+            → Performs meaning (opens code contract substation carried.now) self.old result self.new }
     {
         if self.point.is_some() {
             return Err(Refusal::BookOpen);
@@ -53,11 +38,11 @@ impl<'a> Book<'a> {
         Ok(())
     }
 
-    // The next month, of so many days; answers its number, from 1.
+    /// Starts the next month, of 28 to 31 days; answers its number, from 1.
     pub fn start(&mut self, days: u32) -> Result<u32, Refusal>
         ensures { (meaning : Meaning) → Performs meaning (starts days) self.old result self.new }
     {
-        self.opened(0)?;
+        self.open_point(0)?;
         self.store.start(days)
     }
 }

@@ -1,65 +1,92 @@
 // What a book tells without changing.
-ghost use Rattle.std.specs.Prelude.{◌≡◌, length};
+ghost use Rattle.std.specs.Prelude.{◌≡◌, length, Some, MatchResult};
 ghost use Rattle.tariff.specs.Pricing.{Meaning};
-ghost use Rattle.book.specs.Books.{Answers, view};
-ghost use Rattle.book.specs.Calls.{asks_due, asks_total};
-ghost use Rattle.book.specs.Table.{InOrder};
-ghost use Rattle.book.specs.Texts.{text_answer, text_leaves, text_rows};
 
 use crate::book::Book;
-use ledger::{Entry, NoText};
+use ledger::{Entries, NoText};
 use store::State;
-use tariff::{LINES, Refusal, Schedule};
+use tariff::{Facts, LINES, Refusal, Schedule};
+
+/// A month on file: its days, its state, and the facts that it would be priced from now.
+#[derive(Clone, Copy)]
+pub struct MonthOnFile {
+    pub days: u8,
+    pub state: State,
+    pub facts: Facts,
+}
 
 impl Book<'_> {
-    // Whether pricing the file now would alter any line's sum.
-    pub fn due<S: Schedule>(&self, month: u32, schedule: &S) -> Result<bool, Refusal>
-        ensures { Answers (S.meaning schedule.now) (asks_due month) self.now result }
+    ghost use Rattle.book.specs.Books.{Answers, view};
+    ghost use Rattle.book.specs.Calls.{asks, due, total};
+    ghost use Rattle.book.specs.OnFile.{IsOnFile, month_rows};
+    ghost use Rattle.book.specs.Table.{IsInOrder, first_holding};
+    ghost use Rattle.book.specs.Texts.{text_answer, text_bytes, text_rows};
+
+    /// How a month stands; refused where the book is blank or has no such month.
+    pub fn month(&self, month: u32) -> Result<MonthOnFile, Refusal>
+        ensures { MatchResult result (IsOnFile month (view self.now))
+            (λ refusal. first_holding (month_rows month (view self.now)) ≡ Some refusal) }
     {
-        let found = self.found(month)?;
-        if !found.state.has_reached(State::Billed) {
+        let named = self.named_month(month)?;
+        Ok(MonthOnFile {
+            days: named.days,
+            state: named.state,
+            facts: self.facts(&named),
+        })
+    }
+
+    /// Whether pricing the file now would alter any line's sum of a billed month.
+    pub fn due<S: Schedule>(&self, month: u32, schedule: &S) -> Result<bool, Refusal>
+        ensures { Answers (S.meaning schedule.now) (asks (due month)) self.now result }
+    {
+        let named = self.named_month(month)?;
+        if !named.state.has_reached(State::Billed) {
             return Err(Refusal::MonthOpen { month });
         }
-        let amounts = self.price(&found, schedule)?;
+        let amounts = self.price(&named, schedule)?;
         Ok(
             self.ledger
-                .first_differing(found.number, &amounts)
+                .entries()
+                .first_differing(named.number, &amounts)
                 .is_some(),
         )
     }
 
-    // What the month's entries for a line, from 1, add up to.
+    /// What the entries of a billed month for a line, from 1, add up to in cents.
     pub fn total(&self, month: u32, line: u32) -> Result<i64, Refusal>
-        ensures { (meaning : Meaning) → Answers meaning (asks_total month line) self.now result }
+        ensures { (meaning : Meaning) → Answers meaning (asks (total month line)) self.now result }
     {
-        let found = self.found(month)?;
+        let named = self.named_month(month)?;
         if line < 1 || LINES < line as usize {
             return Err(Refusal::NoSuchPlace {
                 month,
                 place: line as u64,
             });
         }
-        if !found.state.has_reached(State::Billed) {
+        if !named.state.has_reached(State::Billed) {
             return Err(Refusal::MonthOpen { month });
         }
-        Ok(self.ledger.total(found.number, line as u8))
+        Ok(self.ledger.entries().total(named.number, line as u8))
     }
 
-    // The ledger, in the order in which its entries were written.
-    pub fn ledger(&self) -> &[Entry]
-        ensures { result.now ≡ (view self.now).ledger }
+    /// The ledger: its entries, in the order in which they were written.
+    pub fn ledger(&self) -> Entries<'_>
+        ensures { result.slice.now ≡ (view self.now).ledger }
     {
         self.ledger.entries()
     }
 
-    // Prints an entry, by its place from 0, as a line at the front of the bytes; answers its length.
+    /// Prints an entry, by its number from 0, as a line at the front of the bytes; answers its
+    /// length. Refused where there is no such entry, and where there are fewer bytes than
+    /// `ledger::MOST_BYTES`.
     pub fn text(&self, entry: u32, bytes: &mut [u8]) -> Result<usize, Refusal>
         ensures answer { result ≡ text_answer entry (length bytes.old) (view self.now) }
-        ensures bytes { bytes.new ≡ text_leaves entry (view self.now) bytes.old }
-        ensures ordered { InOrder (text_rows entry (length bytes.old) (view self.now)) }
+        ensures bytes { bytes.new ≡ text_bytes entry (view self.now) bytes.old }
+        ensures ordered { IsInOrder (text_rows entry (length bytes.old) (view self.now)) }
     {
-        self.opened(0)?;
+        self.open_point(0)?;
         self.ledger
+            .entries()
             .text(entry as usize, bytes)
             .map_err(|why| match why {
                 NoText::NoSuchEntry => Refusal::NoSuchPlace {

@@ -1,5 +1,6 @@
 pub mod FromFn
 pub mod Fronts
+pub mod KindSums
 pub mod Sums
 pub mod Texts
 pub mod Turns

@@ -8,15 +8,16 @@ use Rattle.std.proofs.lemmas.Bool.Decides.{nat_tests}
 use Rattle.std.proofs.lemmas.Fmt.{length_signed_le}
 use Rattle.std.proofs.lemmas.Int.{ints}
 use Rattle.ledger.specs.Entries.{SumsWithin, is_for}
-use Rattle.ledger.specs.Texts.{Laid, entry_line, kind_letter, most_owed, no_entry}
+use Rattle.ledger.specs.Texts.{IsLaid, entry_line, kind_letter, most_owed}
+use Rattle.ledger.specs.declared.entry.TheConstants.Entry.{UNWRITTEN}
 use Rattle.ledger.specs.declared.entry.EntryKind.{EntryKind}
 use Rattle.ledger.specs.declared.entry.EntryKind.TheVariants.{Bill, TrueUp}
 use Rattle.ledger.proofs.Turns.{line_sum_more}
 use Rattle.ledger.specs.declared.entry.Entry.{Entry}
 
-module _ (text before bytes more : List ℕ) (at : ℕ) (laid : Laid text before at bytes) where
+module _ (text before bytes more : List ℕ) (at : ℕ) (laid : IsLaid text before at bytes) where
   -- a text put behind what is laid
-  pub laid_more : (k next : ℕ) → k ≡ length more → next ≡ at + length more → next ≤ length bytes → Laid (text ++ more) before next (put_mid at k bytes more)
+  pub laid_more : (k next : ℕ) → k ≡ length more → next ≡ at + length more → next ≤ length bytes → IsLaid (text ++ more) before next (put_mid at k bytes more)
   laid_more k next is end room =
       let past = drop (length text) before in
       let both = length-append text more in
@@ -30,23 +31,23 @@ module _ (text before bytes more : List ℕ) (at : ℕ) (laid : Laid text before
         now = rw (kept, rest, after) (sym (append_assoc text more (drop (length (text ++ more)) before)));
       }
 
-pub nothing_laid : (before : List ℕ) → Laid [] before 0 before
+pub nothing_laid : (before : List ℕ) → IsLaid [] before 0 before
 nothing_laid before = record { ends = refl; within = omega arith; now = refl }
 
 in_line : (month kind line cents space end : List ℕ) → ((((((month ++ space) ++ kind) ++ space) ++ line) ++ space) ++ cents) ++ end ≡ (month ++ (space ++ (kind ++ (space ++ (line ++ (space ++ cents)))))) ++ end
 in_line month kind line cents space end = search (rules, append_assoc)
 
 -- the pieces of an entry's line, one behind the other
-pub line_laid : (entry : Entry) (before bytes month kind line cents : List ℕ) (at : ℕ) → month ≡ decimal entry.month → kind ≡ kind_letter entry.kind → line ≡ decimal entry.line → cents ≡ signed_decimal entry.cents → Laid (((((((month ++ codes " ") ++ kind) ++ codes " ") ++ line) ++ codes " ") ++ cents) ++ codes "\n") before at bytes → Laid (entry_line entry) before at bytes
+pub line_laid : (entry : Entry) (before bytes month kind line cents : List ℕ) (at : ℕ) → month ≡ decimal entry.month → kind ≡ kind_letter entry.kind → line ≡ decimal entry.line → cents ≡ signed_decimal entry.cents → IsLaid (((((((month ++ codes " ") ++ kind) ++ codes " ") ++ line) ++ codes " ") ++ cents) ++ codes "\n") before at bytes → IsLaid (entry_line entry) before at bytes
 line_laid entry before bytes month kind line cents at is_month is_letter is_line is_cents laid =
     let whole = in_line month kind line cents (codes " ") (codes "\n") in
     let is : ((((((month ++ codes " ") ++ kind) ++ codes " ") ++ line) ++ codes " ") ++ cents) ++ codes "\n" ≡ entry_line entry = whole ∙ rw (is_month, is_letter, is_line, is_cents) refl in
-    subst (λ text. Laid text before at bytes) is laid
+    subst (λ text. IsLaid text before at bytes) is laid
 
 -- an entry takes a sum within the limit of an amount to one within it
-pub owed_within : (entries : List Entry) → SumsWithin entries → (i : ℕ) → i < length entries → unsigned_abs (get_or entries i no_entry).cents ≤ most_owed
+pub owed_within : (entries : List Entry) → SumsWithin entries → (i : ℕ) → i < length entries → unsigned_abs (get_or entries i UNWRITTEN).cents ≤ most_owed
 owed_within entries within i here =
-    let entry = get_or entries i no_entry in
+    let entry = get_or entries i UNWRITTEN in
     let counts : is_for entry.month entry.line entry ≡ true = grind (arith, nat_tests) in
     let more = line_sum_more entries i here entry.month entry.line true counts in
     let before = within i entry.month entry.line in

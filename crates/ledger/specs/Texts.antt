@@ -1,12 +1,14 @@
 -- An entry in print.
-use Rattle.std.specs.Prelude.{◌≡◌, ℕ, ◌*◌, ◌≤◌, cond, List, ◌++◌, codes, decimal, drop, length, nat_le, nat_lt, pos, slice_index_or, Ok, Err, Result}
+use Rattle.std.specs.Prelude.{◌≡◌, ℕ, ◌*◌, ◌≤◌, List, ◌++◌, codes, decimal, drop, length, nat_le, nat_lt, slice_index_or, Ok, Err, Result, if◌then◌else◌}
 use Rattle.std.specs.Fmt.{signed_decimal}
 use Rattle.tariff.specs.Limits.{most_cents}
 use Rattle.ledger.specs.declared.entry.Entry.{Entry}
 use Rattle.ledger.specs.declared.entry.EntryKind.{EntryKind}
 use Rattle.ledger.specs.declared.entry.EntryKind.TheVariants.{Bill, TrueUp}
-use Rattle.ledger.specs.declared.printed.NoText.{NoText}
-use Rattle.ledger.specs.declared.printed.NoText.TheVariants.{NoSuchEntry, TooFewBytes}
+use Rattle.ledger.specs.declared.entries.NoText.{NoText}
+use Rattle.ledger.specs.declared.entries.NoText.TheVariants.{NoSuchEntry, TooFewBytes}
+use Rattle.ledger.specs.declared.entry.TheConstants.{MOST_BYTES}
+use Rattle.ledger.specs.declared.entry.TheConstants.Entry.{UNWRITTEN}
 
 abbrev pub kind_letter : EntryKind → List ℕ
 kind_letter Bill = codes "B"
@@ -21,20 +23,16 @@ entry_text entry =
 abbrev pub entry_line : Entry → List ℕ
 entry_line entry = entry_text entry ++ codes "\n"
 
--- what is read past the last entry
-abbrev pub no_entry : Entry
-no_entry = record { month = 0; kind = Bill; line = 0; cents = pos 0 }
-
--- the line of an entry, by its place from 0
+-- the line of an entry, by its number from 0
 abbrev pub line_at : ℕ → List Entry → List ℕ
-line_at entry entries = entry_line (slice_index_or entries entry no_entry)
+line_at entry entries = entry_line (slice_index_or entries entry UNWRITTEN)
 
 -- a text at the front of bytes; those past it stay
 abbrev pub at_front : List ℕ → List ℕ → List ℕ
 at_front text bytes = text ++ drop (length text) bytes
 
 -- a text laid at the front of bytes that end after it at a place
-pub record Laid (text before : List ℕ) (at : ℕ) (bytes : List ℕ) : Type 0 where
+pub record IsLaid (text before : List ℕ) (at : ℕ) (bytes : List ℕ) : Type 0 where
   pub ends : at ≡ length text
   pub within : at ≤ length before
   pub now : bytes ≡ at_front text before
@@ -43,11 +41,9 @@ pub record Laid (text before : List ℕ) (at : ℕ) (bytes : List ℕ) : Type 0 
 abbrev pub most_owed : ℕ
 most_owed = 2 * most_cents
 
--- no line of a ledger's entry is longer
-abbrev pub most_bytes : ℕ
-most_bytes = 24
-
 -- how long the line is, or why there is none, from the entries and the number of bytes
 abbrev pub text_answer : ℕ → List Entry → ℕ → Result ℕ NoText
 text_answer entry entries room =
-    cond (nat_le (length entries) entry) (Err NoSuchEntry) (cond (nat_lt room most_bytes) (Err TooFewBytes) (Ok (length (line_at entry entries))))
+    if nat_le (length entries) entry then Err NoSuchEntry
+    else if nat_lt room MOST_BYTES then Err TooFewBytes
+    else Ok (length (line_at entry entries))

@@ -1,23 +1,34 @@
-// An entry of the ledger.
-ghost use Rattle.std.specs.Prelude.{◌≡◌, Some, count_by};
-ghost use Rattle.ledger.specs.Entries.{is_for, is_written};
-ghost use Rattle.ledger.specs.Texts.{entry_text, kind_letter};
+// An entry of the ledger, and its text.
+ghost use Rattle.std.specs.Prelude.{◌≡◌, ◌+◌, ◌≤◌, ◌++◌, List, ℕ, Some, count_by, length, unsigned_abs};
+ghost use Rattle.ledger.specs.declared.entry.TheConstants.{MOST_BYTES};
+ghost use Rattle.ledger.specs.Entries.{is_for, is_of, is_written};
+ghost use Rattle.ledger.specs.Texts.{IsLaid, entry_line, entry_text, kind_letter, most_owed};
 
+use itoa::Buffer;
 use std::fmt;
 
-// Whether an entry came from a bill or from a true-up.
+/// As many bytes as the longest line of a ledger's entry: month and line of three digits, cents of
+/// twelve digits and a sign, three spaces, a letter and a line feed.
+pub const MOST_BYTES: usize = 24;
+
+/// Whether an entry came from a bill or from a true-up; printed `B` and `T`.
 #[derive(Clone, Copy, PartialEq, Eq, Debug)]
 pub enum EntryKind {
+    /// The first pricing of a month: an entry for each line, also of 0 cents.
     Bill,
+    /// A pricing after that: an entry only for a line whose sum it changes.
     TrueUp,
 }
 
-// Month and line by their published numbers, each from 1.
+/// What a bill or a true-up added to a line of a month.
 #[derive(Clone, Copy, PartialEq, Eq, Debug)]
 pub struct Entry {
+    /// The month by its number in its book, from 1.
     pub month: u8,
     pub kind: EntryKind,
+    /// The line by its number on the bill, from 1.
     pub line: u8,
+    /// In cents; below 0 where the line's sum falls.
     pub cents: i64,
 }
 
@@ -32,7 +43,6 @@ impl EntryKind {
         }
     }
 
-    // As it is printed.
     pub(crate) fn text(self) -> &'static str
         ensures { result.now ≡ kind_letter self }
     {
@@ -50,19 +60,56 @@ impl EntryKind {
     }
 }
 
-impl Entry {
-    pub(crate) fn is_for(&self, month: u8, line: u8) -> bool
-        ensures { result ≡ is_for month line self.now }
-    {
-        self.month == month && self.line == line
-    }
-}
-
 impl fmt::Display for EntryKind {
     ghost output = { λ kind. Some (kind_letter kind) };
 
     fn fmt<W: fmt::Write>(&self, f: &mut fmt::Formatter<W>) -> fmt::Result {
         f.write_str(self.text())
+    }
+}
+
+impl Entry {
+    /// What stands in memory for an entry that was not written yet. No ledger reads it.
+    pub const UNWRITTEN: Entry = Entry {
+        month: 0,
+        kind: EntryKind::Bill,
+        line: 0,
+        cents: 0,
+    };
+
+    pub(crate) fn is_for(&self, month: u8, line: u8) -> bool
+        ensures { result ≡ is_for month line self.now }
+    {
+        self.month == month && self.line == line
+    }
+
+    pub(crate) fn is_of(&self, kind: EntryKind) -> bool
+        ensures { result ≡ is_of kind self.now }
+    {
+        self.kind == kind
+    }
+
+    // Puts its line at the front of the bytes; answers how long it is.
+    pub(crate) fn write_line(&self, bytes: &mut [u8]) -> usize
+        requires owed { unsigned_abs self.now.cents ≤ most_owed }
+        requires room { MOST_BYTES ≤ length bytes.old }
+        ensures { IsLaid (entry_line self.now) bytes.old result bytes.new }
+    {
+        let Entry {
+            month,
+            kind,
+            line,
+            cents,
+        } = *self;
+        let mut number = Buffer::new();
+        let mut at = put(bytes, 0, number.format(month));
+        at = put(bytes, at, " ");
+        at = put(bytes, at, kind.text());
+        at = put(bytes, at, " ");
+        at = put(bytes, at, number.format(line));
+        at = put(bytes, at, " ");
+        at = put(bytes, at, number.format(cents));
+        put(bytes, at, "\n")
     }
 }
 
@@ -78,4 +125,16 @@ impl fmt::Display for Entry {
         } = self;
         write!(f, "{month} {kind} {line} {cents}")
     }
+}
+
+// Puts a text behind what is laid so far; answers where the next one goes.
+fn put(bytes: &mut [u8], at: usize, text: &str) -> usize
+    requires room { at + length text.now ≤ length bytes.old }
+    ensures next { result ≡ at + length text.now }
+    ensures laid { (done before : List ℕ) → IsLaid done before at bytes.old
+        → IsLaid (done ++ text.now) before result bytes.new }
+{
+    let end = at + text.len();
+    bytes[at..end].copy_from_slice(text.as_bytes());
+    end
 }

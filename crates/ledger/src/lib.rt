@@ -1,13 +1,12 @@
-// The ledger, in lent memory: entries, their sums, and what a bill and a true-up write.
+//! The ledger of one point, in lent memory: its entries, what they add up to, how they are printed,
+//! and what a bill and a true-up of a month write.
 
 #![tactic(auto)]
 
+mod entries;
 mod entry;
 mod ledger;
-mod printed;
-mod totals;
-mod writes;
 
-pub use entry::{Entry, EntryKind};
+pub use entries::{Entries, LineSum, NoText};
+pub use entry::{Entry, EntryKind, MOST_BYTES};
 pub use ledger::{Ledger, NoRoom};
-pub use printed::{MOST_BYTES, NoText};

@@ -1,14 +1,15 @@
-use Rattle.std.proofs.Common.{◌≡◌, ℕ, ◌+◌, true, false, not, ◌||◌, ltb, leb, [], ◌∷◌, ◌++◌, length, is_some, is_ok, Some, Ok, Err, Result, refl, ap, ◌∙◌, inl, inr, arith}
+use Rattle.std.proofs.Common.{◌≡◌, ℕ, ◌+◌, false, not, ◌||◌, ltb, leb, [], ◌∷◌, ◌++◌, length, is_some, Some, Ok, Err, Result, OnOk, OnErr, refl, ap, ◌∙◌, inl, inr, arith}
 use Rattle.std.proofs.lemmas.Bool.{cases_Bool, cond-false, cond-true}
 use Rattle.std.proofs.lemmas.Bool.Decides.{nat_tests}
 use Rattle.ledger.specs.Ledgers.{entries_of, room_of}
 use Rattle.store.specs.Months.{new_month}
-use Rattle.store.specs.Starts.{start_answer}
+use Rattle.store.specs.Posts.{start_answer}
+use Rattle.store.specs.declared.store.Store.{Store}
 use Rattle.store.specs.Stores.{earlier_peaks_of, capacity_of, months_of}
 use Rattle.tariff.specs.Pricing.{Meaning}
 use Rattle.tariff.specs.declared.refusal.Refusal.{Refusal}
 use Rattle.tariff.specs.declared.refusal.Refusal.TheVariants.{NoMonthFree, DaysOutside}
-use Rattle.book.specs.Books.{Performs, Unaltered, opened_of, view}
+use Rattle.book.specs.Books.{Performs, IsUnaltered, point_of, view}
 use Rattle.book.specs.Calls.{starts}
 use Rattle.book.specs.Table.{blank_book, days_within, row}
 use Rattle.book.specs.declared.book.Book.{Book}
@@ -17,29 +18,29 @@ use Rattle.book.proofs.Exits.{is_refused, is_taken, first_holds, none_holds, pas
 use Rattle.book.proofs.Unbilled.{Unbilled, unbilled_started}
 use Rattle.book.proofs.book.Book.start.Goals as goal
 
+-- a started month is not billed
+started_unbilled : (book : Book) (days : ℕ) (new : Store) (r : Result ℕ Refusal) → OnOk r (months_of new ≡ (view book).months ++ (new_month days ∷ [])) → OnErr r (new ≡ book.store) → Unbilled (months_of new) (view book).ledger
+started_unbilled book days new (Ok number) months refused =
+    rw months (unbilled_started (view book).months (view book).ledger book.unbilled (new_month days))
+started_unbilled book days new (Err refusal) months refused = rw refused book.unbilled
+
 pub invariant_of-self : goal.invariant_of-self
-invariant_of-self c =
-    let book = c.args.self.now in
-    let v = view book in
-    let unbilled : Unbilled (months_of c.start.new.self) v.ledger =
-    elim (cases_Bool (is_ok c.start.result)) [
-      | inl ok ↦ rw (c.start.ensures.months ok) (unbilled_started v.months v.ledger book.unbilled (new_month c.args.days))
-      | inr err ↦ rw (c.start.ensures.refused err) book.unbilled
-    ] in
-    record { unbilled = unbilled }
+invariant_of-self c = record {
+  unbilled = started_unbilled c.args.self.now c.args.days c.start.new.self c.start.result c.start.ensures.months c.start.ensures.refused;
+}
 
 days_alike : (days : ℕ) → not (days_within days) ≡ (ltb days 28 || ltb 31 days)
 days_alike days = grind (arith, nat_tests)
 
 -- an opened book with one month more, or as it was
-module _ (meaning : Meaning) (book book' : Book) (days : ℕ) (point : Point) (opened : book.point ≡ Some point) (r : Result ℕ Refusal) (is : r ≡ start_answer (view book).capacity (length (view book).months) days) (months : is_ok r ≡ true → months_of book'.store ≡ (view book).months ++ (new_month days ∷ [])) (refused : is_ok r ≡ false → book'.store ≡ book.store) (same : (book'.point ≡ book.point) × (book'.ledger ≡ book.ledger)) (before : earlier_peaks_of book'.store ≡ earlier_peaks_of book.store) (capacity : capacity_of book'.store ≡ capacity_of book.store) where
+module _ (meaning : Meaning) (book book' : Book) (days : ℕ) (point : Point) (opened : book.point ≡ Some point) (r : Result ℕ Refusal) (is : r ≡ start_answer (view book).capacity (length (view book).months) days) (months : OnOk r (months_of book'.store ≡ (view book).months ++ (new_month days ∷ []))) (refused : OnErr r (book'.store ≡ book.store)) (same : (book'.point ≡ book.point) × (book'.ledger ≡ book.ledger)) (before : earlier_peaks_of book'.store ≡ earlier_peaks_of book.store) (capacity : capacity_of book'.store ≡ capacity_of book.store) where
   not_blank : (blank_book 0 (view book)).holds ≡ false
-  not_blank = ap (λ p. not (is_some (opened_of p))) opened
+  not_blank = ap (λ p. not (is_some (point_of p))) opened
 
-  unaltered : (e : Refusal) → r ≡ Err e → Unaltered book book' × (view book' ≡ view book)
+  unaltered : (e : Refusal) → r ≡ Err e → IsUnaltered book book' × (view book' ≡ view book)
   unaltered e err =
-      let store = refused (ap is_ok err) in
-      ((same.0, store, same.1), same_view (ap opened_of same.0) (ap earlier_peaks_of store) (ap months_of store) (ap entries_of same.1) (ap capacity_of store) (ap room_of same.1))
+      let store = rw err at refused in
+      ((same.0, store, same.1), same_view (ap point_of same.0) (ap earlier_peaks_of store) (ap months_of store) (ap entries_of same.1) (ap capacity_of store) (ap room_of same.1))
 
   pub performs : Performs meaning (starts days) book r book'
   performs =
@@ -61,10 +62,10 @@ module _ (meaning : Meaning) (book book' : Book) (days : ℕ) (point : Point) (o
                   let ok : r ≡ Ok (length v.months + 1) = is ∙ cond-false _ _ _ some ∙ cond-false _ _ _ within in
                   rw ok
                   (is_taken meaning (starts days) book book' (length v.months + 1) (none_holds (blank_book 0 v ∷ row (leb v.capacity (length v.months)) NoMonthFree ∷ rest ∷ []) (not_blank, (some, (days_alike days ∙ within, tt)))) refl
-                  (same_view (ap opened_of same.0) before (months (ap is_ok ok)) (ap entries_of same.1) capacity (ap room_of same.1)))
+                  (same_view (ap point_of same.0) before (rw ok at months) (ap entries_of same.1) capacity (ap room_of same.1)))
             ]
       ]
 
 pub returns : goal.returns
 returns c meaning =
-    performs meaning c.args.self.now _ c.args.days c.in_ok-opened.field-0 c.in_ok-opened.ensures c.start.result c.start.ensures.result c.start.ensures.months c.start.ensures.refused (refl, refl) c.start.ensures.before c.start.ensures.capacity
+    performs meaning c.args.self.now _ c.args.days c.in_ok-open_point.field-0 c.in_ok-open_point.ensures c.start.result c.start.ensures.result c.start.ensures.months c.start.ensures.refused (refl, refl) c.start.ensures.before c.start.ensures.capacity

@@ -5,7 +5,7 @@ use Rattle.ledger.specs.declared.ledger.Ledger.{Ledger}
 use Rattle.ledger.proofs.Fronts.{entries_length}
 use Rattle.ledger.proofs.ledger.Ledger.push.Goals as goal
 
-free_place : (ledger : Ledger) → length (entries_of ledger) < room_of ledger → ledger.written < length ledger.entries.now
+free_place : (ledger : Ledger) → length (entries_of ledger) < room_of ledger → ledger.written < length ledger.memory.now
 unfolding room_of
 free_place ledger space = omega (arith, entries_length ledger)
 
@@ -19,7 +19,7 @@ invariant_of-self c =
     let here = free_place ledger c.requires.space in
     record {
       there = simp length-set (omega arith);
-      within = rw (take_more_set ledger.entries.now ledger.written c.args.entry here) c.requires.within;
+      within = rw (take_more_set ledger.memory.now ledger.written c.args.entry here) c.requires.within;
     }
 
 pub returns : goal.returns
@@ -27,6 +27,6 @@ unfolding entries_of room_of
 returns c =
     let ledger = c.args.self.now in
     record {
-      pushed = take_more_set ledger.entries.now ledger.written c.args.entry (free_place ledger c.requires.space);
-      room = length-set ledger.entries.now ledger.written c.args.entry;
+      pushed = take_more_set ledger.memory.now ledger.written c.args.entry (free_place ledger c.requires.space);
+      room = length-set ledger.memory.now ledger.written c.args.entry;
     }

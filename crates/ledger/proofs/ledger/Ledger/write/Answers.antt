@@ -1,7 +1,7 @@
 use Rattle.std.proofs.Common.{◌≡◌, ℕ, ◌+◌, ◌<◌, ◌≤◌, true, false, List, [], ◌∷◌, ◌++◌, length, get_or, drop, ℤ, pos, count_by, sym, refl, ap, ◌∙◌, arith, w64, to_z, of_z, rules}
 use Rattle.std.proofs.lemmas.List.{append_assoc, append-nil, drop_all, drop_more, length-append}
 use Rattle.std.proofs.lemmas.Bool.Decides.{nat_tests}
-use Rattle.ledger.specs.Entries.{entries_from, is_written}
+use Rattle.ledger.specs.Entries.{differences, entries_from, is_written, sums}
 use Rattle.ledger.specs.Ledgers.{entries_of}
 use Rattle.ledger.specs.declared.entry.Entry.{Entry}
 use Rattle.ledger.specs.declared.entry.EntryKind.{EntryKind}
@@ -45,7 +45,7 @@ push-requires c =
     let cents = to_z w64 (of_z w64 (get_or lines i (pos 0))) in
     let same : cents ≡ get_or lines i (pos 0) = search rules in
     let more = written_more kind c.args.month lines done _ i c.loop-i.invariant.whole cents (search rules) same (search rules) in
-    let count = ap (count_by (is_written kind)) c.differences-lines.ensures in
+    let count = ap (count_by (is_written kind)) (c.differences-lines.ensures ∙ ap (λ es. differences amounts.cents (sums es c.args.month)) c.entries.ensures) in
     record {
       space = omega (arith, count, owed_count kind c.args.month amounts.cents (entries_of ledger), entries_fit ledger, simp length-append at (ap length more));
       within = part_within _ _ _ more (written_within kind (entries_of ledger) c.args.month amounts.cents amounts.counted (entries_within ledger (entries_of ledger) refl) amounts.within);

@@ -1,7 +1,0 @@
-use Rattle.book.specs.Calls.{price}
-use Rattle.book.proofs.Exits.{post_is_refused}
-use Rattle.book.proofs.book.Book.post_price.Goals as goal
-
-pub returns-in_err-found : goal.returns-in_err-found
-returns-in_err-found c meaning =
-    post_is_refused meaning c.args.month (price c.args.hour c.args.price) c.args.self.now c.from_residual.result _ c.from_residual.ensures.1 c.in_err-found.ensures
