@@ -3,4 +3,4 @@ pub mod Riders
 pub mod Piles
 pub mod RateLaws
 pub mod RiderLaws
-pub mod PileLimits
+pub mod PileLaws

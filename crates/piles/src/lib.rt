@@ -1,4 +1,4 @@
-// Schedules chosen at run time: any rate, under any pile of riders.
+//! Schedules chosen at run time: any rate, under any pile of riders, of kinds that are listed once.
 
 #![tactic(auto)]
 

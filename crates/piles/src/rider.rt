@@ -1,4 +1,3 @@
-// A rider chosen at run time.
 ghost use Rattle.std.specs.Prelude.{◌≡◌, MatchResult};
 ghost use Rattle.tariff.specs.Sheets.{IsFirstOutside};
 ghost use Rattle.piles.specs.Riders.{rider_amount, rider_draft, rider_figures, rider_from_figures, rider_kind, rider_line, rider_number, rider_own, rider_published};
@@ -14,8 +13,11 @@ use tariff::{Amounts, Draft, Facts, Figures, Fraction, Hours, Line, Own, Refusal
 /// Which rider stands over a schedule.
 #[derive(Clone, Copy, PartialEq, Eq, Debug)]
 pub enum RiderKind {
+    /// So much for each MWh.
     Energy,
+    /// So much of all the lines beneath.
     Percent,
+    /// The Primary Service Credit.
     Credit,
 }
 
@@ -82,15 +84,15 @@ impl SheetKind for RiderKind {
     }
 }
 
-// The draft of any rider.
-#[derive(Clone, Copy)]
+/// The draft of any rider.
+#[derive(Clone, Copy, PartialEq, Eq, Debug)]
 pub enum RiderDraft {
     Energy(EnergyDraft),
     Percent(PercentDraft),
     Credit(CreditDraft),
 }
 
-// The sealed sheet of any rider.
+/// The sealed sheet of any rider, which adds as that rider does.
 #[derive(Clone, Copy)]
 pub enum RiderSheet {
     Energy(EnergySheet),
@@ -102,7 +104,9 @@ impl TryFrom<RiderDraft> for RiderSheet {
     type Error = Refusal;
 
     // sealed as the draft of that rider is
-    ghost try_from_gives = { λ draft result. MatchResult result (λ sheet. rider_draft sheet ≡ draft) (IsFirstOutside (rider_figures draft)) };
+    ghost try_from_gives = { λ draft result. MatchResult result
+        (λ sheet. rider_draft sheet ≡ draft)
+        (IsFirstOutside (rider_figures draft)) };
 
     fn try_from(draft: RiderDraft) -> Result<RiderSheet, Refusal> {
         Ok(match draft {

@@ -2,6 +2,4 @@ pub mod Credit
 pub mod Energy
 pub mod Percent
 pub mod Riders
-pub mod Credits
-pub mod Sums
 pub mod Bounds

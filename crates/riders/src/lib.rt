@@ -1,4 +1,5 @@
-// Riders: schedules that stand over a schedule and move one of its lines.
+//! Riders: schedules that stand over a schedule and add to one of its lines. `energy` and `percent` have riders that add
+//! to the line of riders, `credit` the Primary Service Credit, and `Rider` puts any of them over any schedule.
 
 #![tactic(auto)]
 

@@ -2,6 +2,8 @@
 use Rattle.std.specs.Prelude.{ℕ, ◌<◌, ◌≤◌, List, length, ℤ, slice_index_or, unsigned_abs}
 use Rattle.tariff.specs.declared.facts.PlainFacts.{PlainFacts}
 use Rattle.tariff.specs.declared.hours.HourRow.{HourRow}
+use Rattle.tariff.specs.declared.limits.TheConstants.{MOST_CENTS, MOST_DEMAND, MOST_ENERGY, MOST_HOURS, MOST_PRICE}
+use Rattle.tariff.specs.declared.line.TheConstants.{LINES}
 
 -- n items stand before the first one outside its limits; all of them where there is none
 pub record WithinUpTo {X : Type 0} (Within : X → Type 0) (xs : List X) (n : ℕ) : Type 0 where
@@ -11,7 +13,7 @@ pub record WithinUpTo {X : Type 0} (Within : X → Type 0) (xs : List X) (n : �
 
 -- kW or kVA
 abbrev pub most_demand : ℕ
-most_demand = 1000000
+most_demand = MOST_DEMAND
 
 abbrev pub ContractWithin : PlainFacts → Type 0
 ContractWithin f = (1 ≤ f.contract) × (f.contract ≤ f.substation) × (f.substation ≤ most_demand)
@@ -22,9 +24,8 @@ DemandWithin f = (f.peak ≤ f.peak_kva) × (f.peak_kva ≤ most_demand) × (f.r
 abbrev pub FactsWithin : PlainFacts → Type 0
 FactsWithin f = ContractWithin f × DemandWithin f
 
--- four quarters at the most kW; cents per MWh
 abbrev pub HourWithin : HourRow → Type 0
-HourWithin hour = (hour.energy ≤ 4000000) × (hour.price ≤ 99999) × (hour.scheduled ≤ most_demand)
+HourWithin hour = (hour.energy ≤ MOST_ENERGY) × (hour.price ≤ MOST_PRICE) × (hour.scheduled ≤ most_demand)
 
 -- what is read past the last row
 abbrev pub no_row : HourRow
@@ -35,15 +36,15 @@ RowsWithin rows = (k : ℕ) → HourWithin (slice_index_or rows k no_row)
 
 -- the hours of 31 days
 abbrev pub most_hours : ℕ
-most_hours = 744
+most_hours = MOST_HOURS
 
 -- the lines of a statement
 abbrev pub line_count : ℕ
-line_count = 14
+line_count = LINES
 
 -- cents, either way
 abbrev pub most_cents : ℕ
-most_cents = 200000000000
+most_cents = MOST_CENTS
 
 abbrev pub AmountWithin : ℤ → Type 0
 AmountWithin cents = unsigned_abs cents ≤ most_cents

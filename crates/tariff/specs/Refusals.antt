@@ -1,6 +1,7 @@
 -- The refusal table: for each kind of refusal its number, the month that the call named, a place and a rider number.
 use Rattle.std.specs.Prelude.{ℕ, List, ◌++◌, codes, decimal, unwrap_or}
-use Rattle.tariff.specs.Lines.{number_of}
+use Rattle.tariff.specs.Lines.{line_name, number_of}
+use Rattle.tariff.specs.declared.refusal.Fault.{Fault}
 use Rattle.tariff.specs.declared.refusal.Numbers.{Numbers}
 use Rattle.tariff.specs.declared.refusal.Refusal.{Refusal}
 use Rattle.tariff.specs.declared.refusal.Refusal.TheVariants.{BookBlank, BookOpen, OpeningOutside, NoMonthFree, DaysOutside, NoSuchMonth, MonthFinal, NoSuchPlace, OtherPoint, OutsideLimit, Missing, MonthBilled, MonthOpen, EarlierMonth, LinePastLimit, LedgerFull, MonthDue, FigureOutside, TooFewBytes}
@@ -34,3 +35,7 @@ abbrev pub refusal_text : Refusal → List ℕ
 refusal_text refusal =
     let n = numbers_of refusal in
     codes "refused " ++ (decimal n.number ++ (codes " " ++ (decimal n.month ++ (codes " " ++ (decimal n.place ++ (codes " " ++ decimal n.rider))))))
+
+-- a fault in print: the name of the line, and what is wrong with it
+abbrev pub fault_text : Fault → List ℕ
+fault_text fault = line_name fault.line ++ codes " passes the limit of an amount"

@@ -1,4 +1,5 @@
-// The pricing of a month: refusals, money, facts, hours and what a schedule means.
+//! The pricing of a month of transmission service: what is billed for, the lines of a statement, exact money and its
+//! one rounding, sheets of figures, and what a schedule is that prices. Free of the heap: it allocates nothing.
 
 #![tactic(auto)]
 
@@ -13,7 +14,6 @@ mod line;
 mod money;
 mod rate;
 mod refusal;
-mod rounded;
 mod schedule;
 mod sheet;
 mod totals;
@@ -24,7 +24,7 @@ pub use facts::{Facts, PlainFacts};
 pub use figure::Figure;
 pub use figures::{Figures, MOST_FIGURES, Own};
 pub use hours::{HourList, HourRow, Hours};
-pub use limits::{MOST_DEMAND, MOST_PRICE};
+pub use limits::{MOST_CENTS, MOST_DEMAND, MOST_ENERGY, MOST_HOURS, MOST_PRICE};
 pub use line::{LINES, Line};
 pub use money::Fraction;
 pub use rate::Rate;

@@ -4,8 +4,17 @@ ghost use Rattle.tariff.specs.Limits.{WithinUpTo};
 /// The most that a demand can be, in kW or kVA.
 pub const MOST_DEMAND: u32 = 1_000_000;
 
+/// The most energy of an hour, in kW for fifteen minutes: four quarters at `MOST_DEMAND`.
+pub const MOST_ENERGY: u32 = 4_000_000;
+
 /// The most that a pool price can be, in cents per MWh.
 pub const MOST_PRICE: u32 = 99_999;
+
+/// The most hours that a month has: those of 31 days.
+pub const MOST_HOURS: usize = 744;
+
+/// The most that one line of a statement can come to, in cents, either way.
+pub const MOST_CENTS: u64 = 200_000_000_000;
 
 pub(crate) trait WithinLimits {
     ghost within: { Self → Type 0 };

@@ -1,72 +1,78 @@
-// Refusals and the four numbers of each.
 ghost use Rattle.std.specs.Prelude.{◌≡◌, Some};
-ghost use Rattle.tariff.specs.Refusals.{numbers_of, refusal_text};
+ghost use Rattle.tariff.specs.Refusals.{fault_text, numbers_of, refusal_text};
 
 use crate::line::Line;
 use std::error::Error;
 use std::fmt;
 
-// A line that a schedule cannot price, and the rider that carried it past its limit, if it was one.
+/// A line that a schedule cannot price, since it passes `MOST_CENTS`, and the number of the rider that carried it past
+/// that limit, if it was one.
 #[derive(Clone, Copy, PartialEq, Eq, Debug)]
 pub struct Fault {
     pub line: Line,
     pub rider: Option<u16>,
 }
 
-// Why a call was refused. `month` is the month that the call named; none is 0, as in the four
-// numbers below.
+/// Why a call was refused. `month` is the month that the call named, from 1; none is 0, as in `Numbers`. `place` is what
+/// each refusal says.
 #[derive(Clone, Copy, PartialEq, Eq, Debug)]
 pub enum Refusal {
-    // a book that was not opened yet
+    /// The book was not opened yet.
     BookBlank { month: u32 },
-    // a book that is open already
+    /// The book is open already.
     BookOpen,
-    // an opening figure outside its limit, or too many carried peaks
+    /// An opening figure outside its limit, or too many carried peaks.
     OpeningOutside,
-    // as many months started as the memory holds
+    /// As many months started as the memory holds.
     NoMonthFree,
-    // no month has so many days
+    /// No month has so many days.
     DaysOutside,
-    // a month that was not started
+    /// A month that was not started.
     NoSuchMonth { month: u32 },
-    // a month that was made final
+    /// A month that was made final.
     MonthFinal { month: u32 },
-    // a place that is not there, or more hours than a month has
+    /// A quarter, day, hour, line or entry that is not there, as given; or more hours than a month has, and how many.
     NoSuchPlace { month: u32, place: u64 },
-    // a day's post for another point
+    /// A day's post for another point.
     OtherPoint { month: u32 },
-    // a value outside its limit
+    /// A value outside its limit; `place` is 0, and for a day's post the first such reading, from 0, or 96 where
+    /// there are not 96.
     OutsideLimit { month: u32, place: u64 },
-    // a reading or a price that was not posted
+    /// A reading or a price that was not posted; `place` is its quarter, or 3,000 and its hour.
     Missing { month: u32, place: u64 },
-    // a month that was billed already
+    /// A month that was billed already.
     MonthBilled { month: u32 },
-    // a month that was not billed yet
+    /// A month that was not billed yet.
     MonthOpen { month: u32 },
-    // an earlier month that has to come first
+    /// An earlier month that has to come first; `place` is the lowest such month.
     EarlierMonth { month: u32, place: u64 },
-    // a line that passes the limit of an amount
+    /// A line that passes the limit of an amount.
     LinePastLimit { month: u32, fault: Fault },
-    // fewer free entries than are to be written
+    /// Fewer free entries than are to be written; `place` is how many are free.
     LedgerFull { month: u32, place: u64 },
-    // a month that would be priced otherwise now
+    /// A month that would be priced otherwise now; `place` is the number of the first line that would change.
     MonthDue { month: u32, place: u64 },
-    // a sheet's figure outside its limit
+    /// A figure of a sheet outside its limits; `place` is its place on the sheet, from 1.
     FigureOutside { place: u64 },
-    // memory too small for an entry's text
+    /// Memory too small for the text of an entry.
     TooFewBytes,
 }
 
-// The four numbers by which a refusal is known outside the program, 0 where there is none.
+/// The four numbers by which a refusal is known outside the program, each 0 where there is none.
 #[derive(Clone, Copy, PartialEq, Eq, Debug)]
 pub struct Numbers {
+    /// Which kind of refusal, from 1 to 19.
     pub number: u8,
+    /// The month that the call named.
     pub month: u32,
+    /// The place, or for a line that passes the limit of an amount the number of that line.
     pub place: u64,
+    /// The number of the rider.
     pub rider: u16,
 }
 
 impl Refusal {
+    /// The numbers by which the refusal is known.
     pub fn numbers(&self) -> Numbers
         ensures { result ≡ numbers_of self.now }
     {
@@ -102,6 +108,16 @@ impl Refusal {
         }
     }
 }
+
+impl fmt::Display for Fault {
+    ghost output = { λ fault. Some (fault_text fault) };
+
+    fn fmt<W: fmt::Write>(&self, f: &mut fmt::Formatter<W>) -> fmt::Result {
+        write!(f, "{} passes the limit of an amount", self.line)
+    }
+}
+
+impl Error for Fault {}
 
 impl fmt::Display for Refusal {
     ghost output = { λ refusal. Some (refusal_text refusal) };

@@ -1,10 +1,13 @@
 ghost use Rattle.std.specs.Prelude.{◌≡◌, ◌↔◌, List, ℤ, Option, Some, MatchResult};
+ghost use Rattle.tariff.specs.Refusals.{refusal_text};
 ghost use Rattle.tariff.specs.Sheets.{FigureList, FiguresWithin, IsFirstOutside, OwnPlaces, figure_list, values_of};
 
 use crate::figures::{Figures, Own};
 use crate::limits::first_outside;
 use crate::refusal::Refusal;
 use std::alloc::AllocError;
+use std::error::Error;
+use std::fmt;
 
 /// A draft that could not be sealed, as it was, with the reason.
 #[derive(Clone, Copy, PartialEq, Eq, Debug)]
@@ -20,6 +23,16 @@ impl<D: Drop> From<Unsealed<D>> for Refusal {
         unsealed.refusal
     }
 }
+
+impl<D: Drop> fmt::Display for Unsealed<D> {
+    ghost output = { λ unsealed. Some (refusal_text unsealed.refusal) };
+
+    fn fmt<W: fmt::Write>(&self, f: &mut fmt::Formatter<W>) -> fmt::Result {
+        write!(f, "{}", self.refusal)
+    }
+}
+
+impl<D: fmt::Debug + Drop> Error for Unsealed<D> {}
 
 /// The figures of a sheet that is still being filled in, any numbers.
 pub trait Draft: Copy {

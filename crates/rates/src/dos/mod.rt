@@ -1,4 +1,5 @@
-// Demand Opportunity Service, 7 Minutes.
+//! Demand Opportunity Service, 7 Minutes.
+
 mod price;
 mod sheet;
 

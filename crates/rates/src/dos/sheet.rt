@@ -1,4 +1,3 @@
-// The sheet of rate DOS 7 Minutes.
 ghost use Rattle.std.specs.Prelude.{◌≡◌, refl};
 ghost use Rattle.tariff.specs.Sheets.{values_of};
 ghost use Rattle.tariff.proofs.DraftFigures.{inverse};
@@ -6,26 +5,30 @@ ghost use Rattle.rates.specs.Dos.{dos_2009, dos_draft, dos_figures, dos_from_fig
 
 use tariff::{Draft, Figure, Figures, Own, Sealed};
 
-// The published figures; capacity and loss factor are the customer's own.
+/// The published energy figure, in cents per MWh: AESO tariff, rate DOS 7 Minutes, 2009.
 pub const DOS_2009_ENERGY: i64 = 528;
 
+/// The published transaction fee, in cents per month: AESO tariff, rate DOS 7 Minutes, 2009.
 pub const DOS_2009_TRANSACTION_FEE: i64 = 50_000;
 
-// The figures of a sheet that is still being filled in, any numbers. Cents per MWh (energy) and
-// per month (transaction_fee), kW (opportunity_capacity), and hundredths of a percent of the
-// pool price (loss_factor, negative for a credit).
-#[derive(Clone, Copy)]
+/// The figures of a sheet of rate DOS 7 Minutes that is still being filled in, any numbers.
+#[derive(Clone, Copy, PartialEq, Eq, Debug)]
 pub struct DosDraft {
+    /// Cents per MWh, from 0 to 100,000.
     pub energy: i64,
+    /// Cents per month, from 0 to 10,000,000.
     pub transaction_fee: i64,
+    /// The customer's own: kW, from 1 to 1,000,000.
     pub opportunity_capacity: i64,
+    /// The customer's own: hundredths of a percent of the pool price, from -10,000 (a credit) to 10,000.
     pub loss_factor: i64,
 }
 
+/// A sealed sheet of rate DOS 7 Minutes.
 pub type DosSheet = Sealed<DosDraft>;
 
 impl DosDraft {
-    // The published figures with a customer's own capacity and loss factor.
+    /// The published figures with a customer's own capacity and loss factor.
     pub fn published_2009(opportunity_capacity: i64, loss_factor: i64) -> DosDraft
         ensures { result ≡ dos_2009 opportunity_capacity loss_factor }
     {
@@ -45,7 +48,7 @@ impl Draft for DosDraft {
 
     ghost own = { dos_own };
 
-    ghost inverse = { inverse 4 dos_draft (λ draft. values_of (dos_figures draft)) (λ _. refl) (λ _. refl) (λ _. refl) };
+    ghost inverse = { inverse _ dos_draft (λ draft. values_of (dos_figures draft)) (λ _. refl) (λ _. refl) (λ _. refl) };
 
     fn figures(&self) -> Figures {
         Figures::new(&[

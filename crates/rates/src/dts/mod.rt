@@ -1,4 +1,5 @@
-// Demand Transmission Service, and its grandfathered form.
+//! Demand Transmission Service, and its grandfathered form.
+
 mod price;
 mod sheet;
 

@@ -1,4 +1,3 @@
-// The sheet of rate DTS, which rate GTS has too.
 ghost use Rattle.std.specs.Prelude.{◌≡◌, refl};
 ghost use Rattle.tariff.specs.Sheets.{no_own, values_of};
 ghost use Rattle.tariff.proofs.DraftFigures.{inverse};
@@ -6,21 +5,28 @@ ghost use Rattle.rates.specs.Dts.{dts_2007, dts_draft, dts_figures, dts_from_fig
 
 use tariff::{Draft, Figure, Figures, Own, Sealed};
 
-// The figures of a sheet that is still being filled in, any numbers. Cents per MW or MVA of
-// demand, per MWh of energy, per month (delivery_fixed), and hundredths of a percent of the
-// pool price (operating_reserve).
-#[derive(Clone, Copy)]
+/// The figures of a sheet of rate DTS or GTS that is still being filled in, any numbers. Each can be sealed from 0.
+#[derive(Clone, Copy, PartialEq, Eq, Debug)]
 pub struct DtsDraft {
+    /// Cents per MW of billing capacity, at most 10,000,000.
     pub system_demand: i64,
+    /// Cents per MWh, at most 100,000.
     pub system_energy: i64,
+    /// Cents per MW of billing capacity, at most 10,000,000.
     pub delivery_demand: i64,
+    /// Cents per month, shared by contract over the substation; at most 10,000,000.
     pub delivery_fixed: i64,
+    /// Hundredths of a percent of the pool price, at most 10,000.
     pub operating_reserve: i64,
+    /// Cents per MWh, at most 100,000.
     pub voltage_control: i64,
+    /// Cents per MW of the month's peak, at most 10,000,000.
     pub other_support: i64,
+    /// Cents per MVA of the demand in excess of a power factor of 90%, at most 10,000,000.
     pub power_factor: i64,
 }
 
+/// The published figures of rate DTS: AESO tariff, rate DTS, 2007.
 pub const DTS_2007: DtsDraft = DtsDraft {
     system_demand: 161_500,
     system_energy: 141,
@@ -32,6 +38,7 @@ pub const DTS_2007: DtsDraft = DtsDraft {
     power_factor: 40_000,
 };
 
+/// The published figures of rate GTS: AESO tariff, the grandfathered form of rate DTS, 2007.
 pub const GTS_2007: DtsDraft = DtsDraft {
     system_demand: 161_500,
     system_energy: 141,
@@ -43,16 +50,18 @@ pub const GTS_2007: DtsDraft = DtsDraft {
     power_factor: 40_000,
 };
 
+/// A sealed sheet of rate DTS or GTS.
 pub type DtsSheet = Sealed<DtsDraft>;
 
-// Each published sheet has a name of its own; one function over the names would be no plainer.
 impl DtsDraft {
+    /// The published figures of rate DTS.
     pub fn dts_2007() -> DtsDraft
         ensures { result ≡ dts_2007 }
     {
         DTS_2007
     }
 
+    /// The published figures of rate GTS.
     pub fn gts_2007() -> DtsDraft
         ensures { result ≡ gts_2007 }
     {
@@ -67,7 +76,7 @@ impl Draft for DtsDraft {
 
     ghost own = { no_own };
 
-    ghost inverse = { inverse 8 dts_draft (λ draft. values_of (dts_figures draft)) (λ _. refl) (λ _. refl) (λ _. refl) };
+    ghost inverse = { inverse _ dts_draft (λ draft. values_of (dts_figures draft)) (λ _. refl) (λ _. refl) (λ _. refl) };
 
     fn figures(&self) -> Figures {
         Figures::new(&[

@@ -1,4 +1,5 @@
-// Supply Transmission Service.
+//! Supply Transmission Service.
+
 mod price;
 mod sheet;
 

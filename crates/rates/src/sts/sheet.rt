@@ -1,4 +1,3 @@
-// The sheet of rate STS.
 ghost use Rattle.std.specs.Prelude.{◌≡◌, refl};
 ghost use Rattle.tariff.specs.Sheets.{values_of};
 ghost use Rattle.tariff.proofs.DraftFigures.{inverse};
@@ -6,23 +5,25 @@ ghost use Rattle.rates.specs.Sts.{sts_2009, sts_draft, sts_figures, sts_from_fig
 
 use tariff::{Draft, Figure, Figures, Own, Sealed};
 
-// The published figure; loss factor and rating are the customer's own.
+/// The published figure for the connection of units, in cents per MW: AESO tariff, rate STS, 2009.
 pub const STS_2009_UNIT_CONNECTION: i64 = 25_900;
 
-// The figures of a sheet that is still being filled in, any numbers. Hundredths of a percent of
-// the pool price (loss_factor, negative for a credit), kW (unit_rating), and cents per MW
-// (unit_connection).
-#[derive(Clone, Copy)]
+/// The figures of a sheet of rate STS that is still being filled in, any numbers.
+#[derive(Clone, Copy, PartialEq, Eq, Debug)]
 pub struct StsDraft {
+    /// The customer's own: hundredths of a percent of the pool price, from -10,000 (a credit) to 10,000.
     pub loss_factor: i64,
+    /// The customer's own: kW, from 0 to 1,000,000.
     pub unit_rating: i64,
+    /// Cents per MW, from 0 to 10,000,000.
     pub unit_connection: i64,
 }
 
+/// A sealed sheet of rate STS.
 pub type StsSheet = Sealed<StsDraft>;
 
 impl StsDraft {
-    // The published figure with a customer's own loss factor and unit rating.
+    /// The published figure with a customer's own loss factor and unit rating.
     pub fn published_2009(loss_factor: i64, unit_rating: i64) -> StsDraft
         ensures { result ≡ sts_2009 loss_factor unit_rating }
     {
@@ -41,7 +42,7 @@ impl Draft for StsDraft {
 
     ghost own = { sts_own };
 
-    ghost inverse = { inverse 3 sts_draft (λ draft. values_of (sts_figures draft)) (λ _. refl) (λ _. refl) (λ _. refl) };
+    ghost inverse = { inverse _ sts_draft (λ draft. values_of (sts_figures draft)) (λ _. refl) (λ _. refl) (λ _. refl) };
 
     fn figures(&self) -> Figures {
         Figures::new(&[

@@ -1,4 +1,5 @@
-// Export Transmission Service.
+//! Export Transmission Service.
+
 mod price;
 mod sheet;
 

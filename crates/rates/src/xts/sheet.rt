@@ -1,4 +1,3 @@
-// The sheet of rate XTS.
 ghost use Rattle.std.specs.Prelude.{◌≡◌, refl};
 ghost use Rattle.tariff.specs.Sheets.{no_own, values_of};
 ghost use Rattle.tariff.proofs.DraftFigures.{inverse};
@@ -6,16 +5,20 @@ ghost use Rattle.rates.specs.Xts.{xts_2007, xts_draft, xts_figures, xts_from_fig
 
 use tariff::{Draft, Figure, Figures, Own, Sealed};
 
-// The figures of a sheet that is still being filled in, any numbers. Cents per MWh, and
-// hundredths of a percent of the pool price (operating_reserve).
-#[derive(Clone, Copy)]
+/// The figures of a sheet of rate XTS that is still being filled in, any numbers. Each can be sealed from 0.
+#[derive(Clone, Copy, PartialEq, Eq, Debug)]
 pub struct XtsDraft {
+    /// Cents per MWh, at most 100,000.
     pub interconnection: i64,
+    /// Hundredths of a percent of the pool price, at most 10,000.
     pub operating_reserve: i64,
+    /// Cents per MWh, at most 100,000.
     pub voltage_control: i64,
+    /// Cents per MWh, at most 100,000.
     pub other_support: i64,
 }
 
+/// The published figures: AESO tariff, rate XTS, 2007.
 pub const XTS_2007: XtsDraft = XtsDraft {
     interconnection: 377,
     operating_reserve: 374,
@@ -23,9 +26,11 @@ pub const XTS_2007: XtsDraft = XtsDraft {
     other_support: 10,
 };
 
+/// A sealed sheet of rate XTS.
 pub type XtsSheet = Sealed<XtsDraft>;
 
 impl XtsDraft {
+    /// The published figures.
     pub fn published_2007() -> XtsDraft
         ensures { result ≡ xts_2007 }
     {
@@ -40,7 +45,7 @@ impl Draft for XtsDraft {
 
     ghost own = { no_own };
 
-    ghost inverse = { inverse 4 xts_draft (λ draft. values_of (xts_figures draft)) (λ _. refl) (λ _. refl) (λ _. refl) };
+    ghost inverse = { inverse _ xts_draft (λ draft. values_of (xts_figures draft)) (λ _. refl) (λ _. refl) (λ _. refl) };
 
     fn figures(&self) -> Figures {
         Figures::new(&[

@@ -1,4 +1,5 @@
-// The Primary Service Credit, for a plant with transformers of its own.
+//! The Primary Service Credit, for a plant with transformers of its own.
+
 mod charge;
 mod sheet;
 

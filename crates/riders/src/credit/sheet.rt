@@ -1,4 +1,3 @@
-// The sheet of a Primary Service Credit.
 ghost use Rattle.std.specs.Prelude.{◌≡◌, refl};
 ghost use Rattle.tariff.specs.Sheets.{values_of};
 ghost use Rattle.tariff.proofs.DraftFigures.{inverse};
@@ -6,20 +5,26 @@ ghost use Rattle.riders.specs.Credit.{credit_draft, credit_figures, credit_from_
 
 use tariff::{Draft, Figure, Figures, Own, Sealed};
 
-// The rider's number and its figures, any numbers: cents per MW in each band of billing
-// capacity, and cents per month.
-#[derive(Clone, Copy)]
+/// The figures of a Primary Service Credit that is still being filled in, any numbers. A band is of billing capacity times
+/// substation total over contract; each of its figures is in cents per MW, from 0 to 500,000.
+#[derive(Clone, Copy, PartialEq, Eq, Debug)]
 pub struct CreditDraft {
+    /// The rider's number, the customer's own: from 1 to 65,535.
     pub number: i64,
+    /// The first 7.5 MW.
     pub first: i64,
+    /// The next 9.5 MW.
     pub second: i64,
+    /// The next 23 MW.
     pub third: i64,
+    /// What is above.
     pub last: i64,
+    /// Cents per month, from 0 to 10,000,000.
     pub fixed: i64,
 }
 
-// The published figures. The number is the buyer's to give: 0, like any figure of a draft, is a
-// number that may lie outside its limits.
+/// The published figures: AESO tariff, Primary Service Credit, 2009. The number is the customer's own, and 0 here, which
+/// cannot be sealed.
 pub const PSC_2009: CreditDraft = CreditDraft {
     number: 0,
     first: 217_500,
@@ -29,16 +34,15 @@ pub const PSC_2009: CreditDraft = CreditDraft {
     fixed: 386_700,
 };
 
+/// A sealed sheet of a Primary Service Credit.
 pub type CreditSheet = Sealed<CreditDraft>;
 
 impl CreditDraft {
-    // The published figures under a buyer's own number.
+    /// The published figures under a customer's own number.
     pub fn published_2009(number: i64) -> CreditDraft
         ensures { result ≡ psc_2009 number }
     {
-        let mut draft = PSC_2009;
-        draft.number = number;
-        draft
+        CreditDraft { number, ..PSC_2009 }
     }
 }
 
@@ -49,7 +53,7 @@ impl Draft for CreditDraft {
 
     ghost own = { credit_own };
 
-    ghost inverse = { inverse 6 credit_draft (λ draft. values_of (credit_figures draft)) (λ _. refl) (λ _. refl) (λ _. refl) };
+    ghost inverse = { inverse _ credit_draft (λ draft. values_of (credit_figures draft)) (λ _. refl) (λ _. refl) (λ _. refl) };
 
     fn figures(&self) -> Figures {
         Figures::new(&[

@@ -1,4 +1,5 @@
-// The energy rider: so much for each MWh.
+//! The energy rider: so much for each MWh.
+
 mod charge;
 mod sheet;
 

@@ -1,4 +1,3 @@
-// The sheet of an energy rider.
 ghost use Rattle.std.specs.Prelude.{◌≡◌, refl};
 ghost use Rattle.tariff.specs.Sheets.{values_of};
 ghost use Rattle.tariff.proofs.DraftFigures.{inverse};
@@ -6,13 +5,16 @@ ghost use Rattle.riders.specs.Energy.{energy_draft, energy_figures, energy_from_
 
 use tariff::{Draft, Figure, Figures, Own, Sealed};
 
-// The rider's number and its rate in cents per MWh, any numbers.
-#[derive(Clone, Copy)]
+/// The figures of an energy rider that is still being filled in, any numbers; both are the customer's own.
+#[derive(Clone, Copy, PartialEq, Eq, Debug)]
 pub struct EnergyDraft {
+    /// The rider's number, from 1 to 65,535.
     pub number: i64,
+    /// Cents per MWh, from -100,000 to 100,000.
     pub rate: i64,
 }
 
+/// A sealed sheet of an energy rider.
 pub type EnergySheet = Sealed<EnergyDraft>;
 
 impl Draft for EnergyDraft {
@@ -22,7 +24,7 @@ impl Draft for EnergyDraft {
 
     ghost own = { energy_own };
 
-    ghost inverse = { inverse 2 energy_draft (λ draft. values_of (energy_figures draft)) (λ _. refl) (λ _. refl) (λ _. refl) };
+    ghost inverse = { inverse _ energy_draft (λ draft. values_of (energy_figures draft)) (λ _. refl) (λ _. refl) (λ _. refl) };
 
     fn figures(&self) -> Figures {
         Figures::new(&[

@@ -1,4 +1,5 @@
-// The percent rider: so much of all the lines beneath.
+//! The percent rider: so much of all the lines beneath.
+
 mod charge;
 mod sheet;
 

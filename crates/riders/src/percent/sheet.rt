@@ -1,4 +1,3 @@
-// The sheet of a percent rider.
 ghost use Rattle.std.specs.Prelude.{◌≡◌, refl};
 ghost use Rattle.tariff.specs.Sheets.{values_of};
 ghost use Rattle.tariff.proofs.DraftFigures.{inverse};
@@ -6,13 +5,16 @@ ghost use Rattle.riders.specs.Percent.{percent_draft, percent_figures, percent_f
 
 use tariff::{Draft, Figure, Figures, Own, Sealed};
 
-// The rider's number and its factor in hundredths of a percent, any numbers.
-#[derive(Clone, Copy)]
+/// The figures of a percent rider that is still being filled in, any numbers; both are the customer's own.
+#[derive(Clone, Copy, PartialEq, Eq, Debug)]
 pub struct PercentDraft {
+    /// The rider's number, from 1 to 65,535.
     pub number: i64,
+    /// Hundredths of a percent of all the lines beneath, from -10,000 to 10,000.
     pub factor: i64,
 }
 
+/// A sealed sheet of a percent rider.
 pub type PercentSheet = Sealed<PercentDraft>;
 
 impl Draft for PercentDraft {
@@ -22,7 +24,7 @@ impl Draft for PercentDraft {
 
     ghost own = { percent_own };
 
-    ghost inverse = { inverse 2 percent_draft (λ draft. values_of (percent_figures draft)) (λ _. refl) (λ _. refl) (λ _. refl) };
+    ghost inverse = { inverse _ percent_draft (λ draft. values_of (percent_figures draft)) (λ _. refl) (λ _. refl) (λ _. refl) };
 
     fn figures(&self) -> Figures {
         Figures::new(&[
