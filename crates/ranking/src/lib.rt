@@ -1,62 +1,72 @@
-// The highest of a run of records, for any record that has an order.
+//! The highest of a list of items, for any type of item that has an order; and orders made of
+//! orders.
 
 #![tactic(auto)]
 
-ghost use Rattle.std.specs.Prelude.{◌≡◌, ℕ, ◌<◌, ◌≤◌, Bool, true, false, length, MatchOption, slice_index_or};
+ghost use Rattle.std.specs.Prelude.{◌≡◌, ◌↔◌, ℕ, ◌<◌, ◌≤◌, Bool, true, false, [], length, IfNone, IfSome, IsNone, slice_index_or};
 ghost use Rattle.std.specs.Cmp.{IsStrictWeakOrder};
 ghost use Rattle.std.specs.List.{IsFirstBest};
 ghost use Rattle.ranking.specs.Orders.{NoneAbove, then_outranks};
 ghost use Rattle.std.proofs.Common.{rules};
 
-// An order on records of type R. It stands on a selector type, so that one
-// record can have several orders.
-pub trait Order<R> {
-    // whether the first record stands above the second
-    ghost outranks: { R → R → Bool };
+/// An order on items of type `T`. It stands on a selector type, so that one type of item can have
+/// several orders.
+pub trait Order<T> {
+    // whether the first item stands above the second
+    ghost outranks: { T → T → Bool };
 
-    fn above(x: &R, y: &R) -> bool
+    /// Whether the first item stands above the second.
+    fn above(x: &T, y: &T) -> bool
         ensures { result ≡ outranks x.now y.now };
 
-    // two records are never each above the other, and records that none is above stay so along a chain
+    // two items are never each above the other, and items that none is above stay so along a chain
     ghost orders: { IsStrictWeakOrder outranks };
 }
 
-// The place of the first record from a place on that stands above another.
-fn first_above<R, K: Order<R>>(run: &[R], from: usize, other: &R) -> Option<usize>
-    ensures { MatchOption result (NoneAbove K.outranks run.now from (length run.now) other.now) (λ i. (from ≤ i) × (i < length run.now) × NoneAbove K.outranks run.now from i other.now × ((d : R) → K.outranks (slice_index_or run.now i d) other.now ≡ true)) }
+// The place of the first item from a place on that stands above another.
+fn first_above<T, K: Order<T>>(items: &[T], from: usize, other: &T) -> Option<usize>
+    ensures none { IfNone result
+        (NoneAbove K.outranks items.now from (length items.now) other.now) }
+    ensures later { IfSome result (λ place. from ≤ place) }
+    ensures there { IfSome result (λ place. place < length items.now) }
+    ensures before { IfSome result (λ place. NoneAbove K.outranks items.now from place other.now) }
+    ensures above { IfSome result (λ place.
+        (d : T) → K.outranks (slice_index_or items.now place d) other.now ≡ true) }
 {
-    for i in from..run.len() {
-        if K::above(&run[i], other) {
+    for i in from..items.len() {
+        if K::above(&items[i], other) {
             return Some(i);
         }
     }
     None
 }
 
-// The place of the highest record of a run, the first among equals; none for an empty run.
-pub fn highest<R, K: Order<R>>(run: &[R]) -> Option<usize>
-    ensures { MatchOption result (length run.now ≡ 0) (λ best. IsFirstBest K.outranks run.now (length run.now) best) }
+/// The place of the highest item of a list, from 0, the first among equals; `None` where the list
+/// is empty.
+pub fn highest<T, K: Order<T>>(items: &[T]) -> Option<usize>
+    ensures empty { IsNone result ↔ (items.now ≡ []) }
+    ensures best { IfSome result (IsFirstBest K.outranks items.now (length items.now)) }
 {
-    if run.is_empty() {
+    if items.is_empty() {
         return None;
     }
     let mut best = 0;
-    // each search is for one record, so that what ranks it is read once
-    while let Some(next) = first_above::<R, K>(run, best, &run[best]) {
+    // each search is for one item, so that what ranks it is read once
+    while let Some(next) = first_above::<T, K>(items, best, &items[best]) {
         best = next;
     }
     Some(best)
 }
 
-// One order, and among its equals another.
+/// The order by `First`, and among its equals by `Second`.
 pub struct Then<First, Second>(First, Second);
 
-impl<R, First: Order<R>, Second: Order<R>> Order<R> for Then<First, Second> {
+impl<T, First: Order<T>, Second: Order<T>> Order<T> for Then<First, Second> {
     ghost outranks = { then_outranks First.Order.outranks Second.Order.outranks };
 
     ghost orders = { Prim.search rules };
 
-    fn above(x: &R, y: &R) -> bool {
+    fn above(x: &T, y: &T) -> bool {
         First::above(x, y) || !First::above(y, x) && Second::above(x, y)
     }
 }

@@ -17,78 +17,98 @@ use Rattle.store.specs.declared.store.Store.{Store}
 -- ---- stretches
 
 module _ {X : Type 0} where
-  pub stretch_map : {Y : Type 0} (f : X → Y) (room k n : ℕ) (xs : List X) → map f (stretch room k n xs) ≡ stretch room k n (map f xs)
+  pub stretch_map : {Y : Type 0} (f : X → Y) (room k n : ℕ) (xs : List X)
+      → map f (stretch room k n xs) ≡ stretch room k n (map f xs)
   unfolding stretch
   stretch_map f room k n xs = sym (ap (take n) (drop-map f (room * k) xs) ∙ take-map f n (drop (room * k) xs))
 
-  pub length_stretch : (room k n : ℕ) (xs : List X) → room * k + n ≤ length xs → length (stretch room k n xs) ≡ n
+  pub length_stretch : (room k n : ℕ) (xs : List X) → room * k + n ≤ length xs
+      → length (stretch room k n xs) ≡ n
   unfolding stretch
   length_stretch room k n xs there = simp (length-take, length-drop) (omega arith)
 
-  pub get_or_stretch : (room k n : ℕ) (xs : List X) (i : ℕ) (d : X) → i < n → get_or (stretch room k n xs) i d ≡ get_or xs (room * k + i) d
+  pub get_or_stretch : (room k n : ℕ) (xs : List X) (i : ℕ) (d : X) → i < n
+      → get_or (stretch room k n xs) i d ≡ get_or xs (room * k + i) d
   unfolding stretch
-  get_or_stretch room k n xs i d below = get_or-take n (drop (room * k) xs) i d below ∙ get_or-drop (room * k) xs i d
+  get_or_stretch room k n xs i d below = get_or-take n (drop (room * k) xs) i d below
+      ∙ get_or-drop (room * k) xs i d
 
   -- one place written, in another month and in the month's own
-  pub stretch_set_other : (room j k n : ℕ) (xs : List X) (at : ℕ) (v : X) → j ≢ k → n ≤ room → at < room → stretch room j n (set xs (room * k + at) v) ≡ stretch room j n xs
+  pub stretch_set_other : (room j k n : ℕ) (xs : List X) (at : ℕ) (v : X) → j ≢ k → n ≤ room → at < room
+      → stretch room j n (set xs (room * k + at) v) ≡ stretch room j n xs
   unfolding stretch
   stretch_set_other room j k n xs at v other short below =
       let place = room * k + at in
       elim (cases_lt j k) [
         | inl before ↦
-            let far : room * j + n ≤ place = omega (arith, mul-le-mul_left {m = j + 1} {n = k} room (omega arith), mul-add room j 1) in
+            let far : room * j + n ≤ place =
+            omega (arith, mul-le-mul_left {m = j + 1} {n = k} room (omega arith), mul-add room j 1) in
             let rest : place ≡ room * j + (place - room * j) = omega arith in
             ap (λ i. take n (drop (room * j) (set xs i v))) rest
             ∙ ap (take n) (drop-set-add (room * j) xs (place - room * j) v)
             ∙ take-set-le n (drop (room * j) xs) (place - room * j) v (omega arith)
         | inr after ↦
-            ap (take n) (drop-set-lt (room * j) xs place v (omega (arith, mul-le-mul_left {m = k + 1} {n = j} room (omega (arith, other)), mul-add room k 1)))
+            ap (take n) (drop-set-lt (room * j) xs place v
+            (omega (
+              arith,
+              mul-le-mul_left {m = k + 1} {n = j} room (omega (arith, other)),
+              mul-add room k 1,
+            )))
       ]
 
-  pub stretch_set : (room k n : ℕ) (xs : List X) (at : ℕ) (v : X) → at < n → stretch room k n (set xs (room * k + at) v) ≡ set (stretch room k n xs) at v
+  pub stretch_set : (room k n : ℕ) (xs : List X) (at : ℕ) (v : X) → at < n
+      → stretch room k n (set xs (room * k + at) v) ≡ set (stretch room k n xs) at v
   unfolding stretch
-  stretch_set room k n xs at v below = ap (take n) (drop-set-add (room * k) xs at v) ∙ take-set-lt n (drop (room * k) xs) at v below
+  stretch_set room k n xs at v below = ap (take n) (drop-set-add (room * k) xs at v)
+      ∙ take-set-lt n (drop (room * k) xs) at v below
 
   -- places in a row
-  pub stretch_sets_other : (room j k n : ℕ) (xs : List X) (at : ℕ) (vs : List X) → j ≢ k → n ≤ room → at + length vs ≤ room → stretch room j n (sets xs (room * k + at) vs) ≡ stretch room j n xs
+  pub stretch_sets_other : (room j k n : ℕ) (xs : List X) (at : ℕ) (vs : List X) → j ≢ k → n ≤ room
+      → at + length vs ≤ room → stretch room j n (sets xs (room * k + at) vs) ≡ stretch room j n xs
   stretch_sets_other room j k n xs at [] other short below = refl
   stretch_sets_other room j k n xs at (v ∷ vs) other short below =
-      let more = stretch_sets_other room j k n (set xs (room * k + at) v) (suc at) vs other short (omega arith) in
+      let more = stretch_sets_other room j k n (set xs (room * k + at) v) (suc at) vs other short
+      (omega arith) in
       rw (← add-suc (room * k) at) (more ∙ stretch_set_other room j k n xs at v other short (omega arith))
 
-  pub stretch_sets : (room k n : ℕ) (xs : List X) (at : ℕ) (vs : List X) → at + length vs ≤ n → stretch room k n (sets xs (room * k + at) vs) ≡ sets (stretch room k n xs) at vs
+  pub stretch_sets : (room k n : ℕ) (xs : List X) (at : ℕ) (vs : List X) → at + length vs ≤ n
+      → stretch room k n (sets xs (room * k + at) vs) ≡ sets (stretch room k n xs) at vs
   stretch_sets room k n xs at [] below = refl
   stretch_sets room k n xs at (v ∷ vs) below =
       let more = stretch_sets room k n (set xs (room * k + at) v) (suc at) vs (omega arith) in
-      rw (← add-suc (room * k) at) (more ∙ ap (λ ys. sets ys (suc at) vs) (stretch_set room k n xs at v (omega arith)))
-
-  pub sets_past : (xs : List X) (at : ℕ) (vs : List X) → length xs ≤ at → sets xs at vs ≡ xs
-  sets_past xs at [] past = refl
-  sets_past xs at (v ∷ vs) past = rw (set_past xs at v past) (sets_past xs (suc at) vs (omega arith))
+      rw (← add-suc (room * k) at)
+      (more ∙ ap (λ ys. sets ys (suc at) vs) (stretch_set room k n xs at v (omega arith)))
 
   pub sets_all : (xs vs : List X) → length vs ≡ length xs → sets xs 0 vs ≡ vs
   sets_all xs vs many =
-      sets-eq vs xs 0 (omega arith) ∙ ap (λ ys. vs ++ ys) (drop_all (0 + length vs) xs (omega arith)) ∙ append-nil vs
+      sets-eq vs xs 0 (omega arith) ∙ ap (λ ys. vs ++ ys) (drop_all (0 + length vs) xs (omega arith))
+      ∙ append-nil vs
 
   -- a whole stretch written with one value
-  pub stretch_cleared : (room k n : ℕ) (xs : List X) (v : X) → room * k + n ≤ length xs → stretch room k n (sets xs (room * k + 0) (replicate n v)) ≡ replicate n v
+  pub stretch_cleared : (room k n : ℕ) (xs : List X) (v : X) → room * k + n ≤ length xs
+      → stretch room k n (sets xs (room * k + 0) (replicate n v)) ≡ replicate n v
   stretch_cleared room k n xs v there =
       let many = length-replicate n v in
       stretch_sets room k n xs 0 (replicate n v) (omega (arith, many))
       ∙ sets_all (stretch room k n xs) (replicate n v) (many ∙ sym (length_stretch room k n xs there))
 
 -- a part written as a whole
-pub map_put_mid : {X Y : Type 0} (f : X → Y) (xs ys : List X) (a n : ℕ) (vs : List Y) → map f ys ≡ vs → length ys ≡ n → a + n ≤ length xs → map f (put_mid a n xs ys) ≡ sets (map f xs) a vs
+pub map_put_mid : {X Y : Type 0} (f : X → Y) (xs ys : List X) (a n : ℕ) (vs : List Y) → map f ys ≡ vs
+    → length ys ≡ n → a + n ≤ length xs → map f (put_mid a n xs ys) ≡ sets (map f xs) a vs
 map_put_mid f xs ys a n vs are many fits =
     let new : length vs ≡ n = sym (ap length are) ∙ length-map ys f ∙ many in
     let put = put_mid-paste a n xs ys ys n refl refl (sym many) ∙ paste_all xs a ys n (sym many) in
     let wrote = sets-eq vs (map f xs) a (rw (new, length-map) fits) in
-    ap (map f) put ∙ map-append f (take a xs) (ys ++ drop (a + n) xs) ∙ ap (λ zs. map f (take a xs) ++ zs) (map-append f ys (drop (a + n) xs))
+    ap (map f) put ∙ map-append f (take a xs) (ys ++ drop (a + n) xs)
+    ∙ ap (λ zs. map f (take a xs) ++ zs) (map-append f ys (drop (a + n) xs))
     ∙ ap (λ zs. map f (take a xs) ++ (zs ++ map f (drop (a + n) xs))) are
-    ∙ sym (wrote ∙ append_assoc (take a (map f xs)) vs (drop (a + length vs) (map f xs)) ∙ rw (new, take-map f a xs, drop-map f (a + n) xs) refl)
+    ∙ sym (wrote ∙ append_assoc (take a (map f xs)) vs (drop (a + length vs) (map f xs))
+    ∙ rw (new, take-map f a xs, drop-map f (a + n) xs) refl)
 
-pub same_length : {X Y : Type 0} (f : X → Y) (xs ys : List X) (a : ℕ) (vs : List Y) → map f ys ≡ sets (map f xs) a vs → length ys ≡ length xs
-same_length f xs ys a vs written = sym (length-map ys f) ∙ ap length written ∙ length-sets (map f xs) a vs ∙ length-map xs f
+pub same_length : {X Y : Type 0} (f : X → Y) (xs ys : List X) (a : ℕ) (vs : List Y)
+    → map f ys ≡ sets (map f xs) a vs → length ys ≡ length xs
+same_length f xs ys a vs written = sym (length-map ys f) ∙ ap length written ∙ length-sets (map f xs) a vs
+    ∙ length-map xs f
 
 -- ---- months
 
@@ -100,41 +120,48 @@ pub get_or_months : (s : Store) (k : ℕ) (d : Month) → k < s.started → get_
 unfolding months_of
 get_or_months s k d below = get_or-map-range_with_len (month_of s) 0 s.started k k d below (omega arith)
 
-pub months_same : (s t : Store) → t.started ≡ s.started → ((j : ℕ) → j < s.started → month_of t j ≡ month_of s j) → months_of t ≡ months_of s
+pub months_same : (s t : Store) → t.started ≡ s.started
+    → ((j : ℕ) → j < s.started → month_of t j ≡ month_of s j) → months_of t ≡ months_of s
 months_same s t started same =
     ext_get_or no_month _ _ (length_months t ∙ started ∙ sym (length_months s)) (λ j h.
     let below : j < s.started = omega (arith, length_months t) in
     get_or_months t j no_month (omega arith) ∙ same j below ∙ sym (get_or_months s j no_month below))
 
 -- one month altered, and none past the last
-pub months_altered : (s t : Store) (k : ℕ) (alter : Month → Month) → t.started ≡ s.started → k < s.started → month_of t k ≡ alter (month_of s k) → ((j : ℕ) → j < s.started → j ≢ k → month_of t j ≡ month_of s j) → months_of t ≡ months_with k alter (months_of s)
+pub months_altered : (s t : Store) (k : ℕ) (alter : Month → Month) → t.started ≡ s.started → k < s.started
+    → month_of t k ≡ alter (month_of s k) → ((j : ℕ) → j < s.started → j ≢ k → month_of t j ≡ month_of s j)
+    → months_of t ≡ months_with k alter (months_of s)
 months_altered s t k alter started there own others =
     let known = get_or_months s k no_month there in
-    ext_get_or no_month _ _ (length_months t ∙ started ∙ sym (length_months s) ∙ sym (length-set (months_of s) k (alter (get_or (months_of s) k no_month)))) (λ j h.
+    ext_get_or no_month _ _ (length_months t ∙ started ∙ sym (length_months s)
+    ∙ sym (length-set (months_of s) k (alter (get_or (months_of s) k no_month)))) (λ j h.
     let below : j < s.started = omega (arith, length_months t) in
     let new = get_or_months t j no_month (omega arith) in
     elim (cases_eq j k) [
       | inl same ↦
-          let place = get_or-set_same (months_of s) k (alter (get_or (months_of s) k no_month)) no_month (omega (arith, length_months s)) in
+          let place = get_or-set_same (months_of s) k (alter (get_or (months_of s) k no_month)) no_month
+          (omega (arith, length_months s)) in
           cc
       | inr other ↦
-          let place = get_or-set_other (months_of s) k j (alter (get_or (months_of s) k no_month)) no_month other in
+          let place = get_or-set_other (months_of s) k j
+          (alter (get_or (months_of s) k no_month)) no_month other in
           let old = get_or_months s j no_month below in
           let kept = others j below other in
           cc
     ])
 
-pub altered_alike : (months : List Month) (k : ℕ) (alter : Month → Month) → alter (get_or months k no_month) ≡ get_or months k no_month → months_with k alter months ≡ months
-altered_alike months k alter alike = ap (set months k) alike ∙ set-get_or months k no_month
-
 -- one month more
-counted_same : {X : Type 0} (f g : ℕ → X) (n : ℕ) → ((j : ℕ) → j < n → f j ≡ g j) → map f (range_with_len 0 n) ≡ map g (range_with_len 0 n)
+counted_same : {X : Type 0} (f g : ℕ → X) (n : ℕ) → ((j : ℕ) → j < n → f j ≡ g j)
+    → map f (range_with_len 0 n) ≡ map g (range_with_len 0 n)
 counted_same f g n same =
     same_lists _ _ (length-map-range_with_len f 0 n ∙ sym (length-map-range_with_len g 0 n)) (λ j d h.
     let below : j < n = omega (arith, length-map-range_with_len f 0 n) in
-    get_or-map-range_with_len f 0 n j j d below (omega arith) ∙ same j below ∙ sym (get_or-map-range_with_len g 0 n j j d below (omega arith)))
+    get_or-map-range_with_len f 0 n j j d below (omega arith) ∙ same j below
+    ∙ sym (get_or-map-range_with_len g 0 n j j d below (omega arith)))
 
-pub months_pushed : (s t : Store) (month : Month) → t.started ≡ s.started + 1 → month_of t s.started ≡ month → ((j : ℕ) → j < s.started → month_of t j ≡ month_of s j) → months_of t ≡ months_of s ++ month ∷ []
+pub months_pushed : (s t : Store) (month : Month) → t.started ≡ s.started + 1
+    → month_of t s.started ≡ month → ((j : ℕ) → j < s.started → month_of t j ≡ month_of s j)
+    → months_of t ≡ months_of s ++ month ∷ []
 unfolding months_of
 months_pushed s t month started last same =
     ap (λ n. map (month_of t) (range_with_len 0 n)) started

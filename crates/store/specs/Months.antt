@@ -59,7 +59,8 @@ months_with k alter months = slice_set months k (alter (slice_index_or months k 
 -- the first reading that is missing, else the first price
 unfoldable pub first_missing : Month → Option Missing
 first_missing month =
-    option_or (option_map MissingReading (position is_none month.readings)) (option_map MissingPrice (position (λ hour. is_none hour.price) month.hours))
+    option_or (option_map MissingReading (position is_none month.readings))
+    (option_map MissingPrice (position (λ hour. is_none hour.price) month.hours))
 
 -- a missing reading by its quarter, a missing price by its hour past the quarters
 abbrev pub missing_place : Missing → ℕ

@@ -1,14 +1,14 @@
 -- What a store holds: its months, the peaks before them, and its room.
-use Rattle.std.specs.Prelude.{◌≡◌, ℕ, ◌/◌, min, List, map, length, take}
+use Rattle.std.specs.Prelude.{◌≡◌, ℕ, ◌/◌, min, List, map, length, take, slice_index_or}
 use Rattle.std.specs.List.{range_with_len}
-use Rattle.store.specs.Months.{Month, months_with, quarters_of, hours_of}
+use Rattle.store.specs.Months.{Month, hours_of, months_with, no_month, quarters_of}
 use Rattle.store.specs.Records.{hour_of, reading_of, record_in, stretch}
 use Rattle.store.specs.declared.carried.TheConstants.{RATCHET}
 use Rattle.store.specs.declared.memory.TheConstants.{MONTH_HOURS, MONTH_QUARTERS}
 use Rattle.store.specs.declared.store.TheConstants.{MOST_MONTHS}
 use Rattle.store.specs.declared.store.Store.{Store}
 
--- the month at place k, from 0
+-- the month that the records and the memory hold at place k, from 0
 unfoldable pub month_of : Store → ℕ → Month
 month_of store k =
     let month = record_in store.records k in
@@ -21,6 +21,10 @@ month_of store k =
 
 unfoldable pub months_of : Store → List Month
 months_of store = map (month_of store) (range_with_len 0 store.started)
+
+-- the month at place k, and no month past the last
+abbrev pub month_at : Store → ℕ → Month
+month_at store k = slice_index_or (months_of store) k no_month
 
 -- the peaks of the 24 months before month 1, the oldest first
 unfoldable pub earlier_peaks_of : Store → List ℕ

@@ -143,7 +143,8 @@ impl Memory<'_> {
     // The highest kW of `n` quarters from a place on.
     pub(crate) fn part_peak(&self, first: usize, n: usize) -> u32
         requires { first + n ≤ length self.now.quarters.now }
-        ensures counted { result ≡ top (map kw_of (take n (drop first (map reading_of self.now.quarters.now)))) }
+        ensures counted { result
+            ≡ top (map kw_of (take n (drop first (map reading_of self.now.quarters.now)))) }
         ensures within { result ≤ most_demand }
     {
         highest_of::<Quarter, Kw>(&self.quarters[first..first + n])
@@ -161,9 +162,11 @@ impl Memory<'_> {
         posted: u32,
     ) -> u32
         requires in_bounds { MONTH_QUARTERS * k + quarters_of days ≤ length self.now.quarters.now }
-        requires limited { (kept ≤ most_demand) × (posted ≤ most_demand) }
+        requires kept_within { kept ≤ most_demand }
+        requires posted_within { posted ≤ most_demand }
         requires over { kept ≤ posted → peak_in self.now.quarters.now k days ≡ posted }
-        requires under { before < kept → posted < kept → peak_in self.now.quarters.now k days ≡ kept }
+        requires under { before < kept → posted < kept
+            → peak_in self.now.quarters.now k days ≡ kept }
         ensures counted { result ≡ peak_in self.now.quarters.now k days }
         ensures within { result ≤ most_demand }
     {
@@ -180,7 +183,8 @@ impl Memory<'_> {
     pub(crate) fn write(&mut self, first: usize, readings: &[Reading])
         requires there { first + length readings.now ≤ length self.old.quarters.now }
         requires within { prefix_len reading_within readings.now ≡ length readings.now }
-        ensures quarters { map reading_of self.new.quarters.now ≡ sets (map reading_of self.old.quarters.now) first (map Some readings.now) }
+        ensures quarters { map reading_of self.new.quarters.now
+            ≡ sets (map reading_of self.old.quarters.now) first (map Some readings.now) }
         ensures size { length self.new.quarters.now ≡ length self.old.quarters.now }
         ensures hours { self.new.hours.now ≡ self.old.hours.now }
     {
@@ -189,11 +193,17 @@ impl Memory<'_> {
 
     // Marks the quarters and the hours of the month at place `k`, of so many days, as never posted.
     pub(crate) fn clear(&mut self, k: usize, days: usize)
-        requires quarters_in_bounds { MONTH_QUARTERS * k + quarters_of days ≤ length self.old.quarters.now }
-        requires hours_in_bounds { MONTH_HOURS * k + hours_of days ≤ length self.old.hours.now }
-        ensures quarters { map reading_of self.new.quarters.now ≡ sets (map reading_of self.old.quarters.now) (MONTH_QUARTERS * k) (replicate (quarters_of days) None) }
-        ensures hours { map hour_of self.new.hours.now ≡ sets (map hour_of self.old.hours.now) (MONTH_HOURS * k) (replicate (hours_of days) new_hour) }
-        ensures sizes { (length self.new.quarters.now ≡ length self.old.quarters.now) × (length self.new.hours.now ≡ length self.old.hours.now) }
+        requires quarters_there { MONTH_QUARTERS * k + quarters_of days
+            ≤ length self.old.quarters.now }
+        requires hours_there { MONTH_HOURS * k + hours_of days ≤ length self.old.hours.now }
+        ensures quarters { map reading_of self.new.quarters.now
+            ≡ sets (map reading_of self.old.quarters.now) (MONTH_QUARTERS * k)
+            (replicate (quarters_of days) None) }
+        ensures hours { map hour_of self.new.hours.now
+            ≡ sets (map hour_of self.old.hours.now) (MONTH_HOURS * k)
+            (replicate (hours_of days) new_hour) }
+        ensures quarters_size { length self.new.quarters.now ≡ length self.old.quarters.now }
+        ensures hours_size { length self.new.hours.now ≡ length self.old.hours.now }
     {
         let quarter = MONTH_QUARTERS * k;
         let hour = MONTH_HOURS * k;

@@ -19,7 +19,7 @@ pub struct Reading {
 /// What is posted to one quarter or one hour of a month.
 #[derive(Clone, Copy, PartialEq, Eq, Debug)]
 pub enum Post {
-    /// What the meter read in a quarter: a kW no higher than its kVA, which is 1,000,000 at the most.
+    /// What the meter read in a quarter: a kW no higher than its kVA, 1,000,000 at the most.
     Reading(Reading),
     /// The pool price of an hour in cents per MWh, 99,999 at the most.
     Price(u32),
@@ -72,8 +72,8 @@ impl Post {
     }
 }
 
-// What is at fault in a day's readings: the first reading outside its limits; 96 where there are not
-// 96 of them.
+// What is at fault in a day's readings: the first reading outside its limits; 96 where there are
+// not 96 of them.
 pub(crate) fn day_fault(readings: &[Reading]) -> Option<usize>
     ensures fault { result ≡ day_fault readings.now }
     ensures counted { IfNone result (length readings.now ≡ DAY_QUARTERS) }

@@ -15,8 +15,8 @@ use tariff::{HourRow, Hours};
 // An hour without a price is named by its place past this, which no quarter reaches.
 const PAST_QUARTERS: u64 = 3_000;
 
-/// What a month has to have posted before it can be billed: a reading in each quarter and a price in
-/// each hour. The first that it lacks, by its place from 0.
+/// What a month lacks first before it can be billed: a reading in a quarter, or a price in an hour;
+/// by its place from 0.
 #[derive(Clone, Copy, PartialEq, Eq, Debug)]
 pub enum Missing {
     Reading { quarter: u32 },
@@ -99,7 +99,9 @@ fn fill_rows(rows: &mut [HourRow], quarters: &[Quarter], hours: &[Hour])
     requires room { length hours.now ≤ length rows.old }
     requires quartered { length quarters.now ≡ 4 * length hours.now }
     requires within { RowsWithin rows.old }
-    ensures filled { take (length hours.now) rows.new ≡ map (hour_row (map reading_of quarters.now) (map hour_of hours.now)) (range_with_len 0 (length hours.now)) }
+    ensures filled { take (length hours.now) rows.new
+        ≡ map (hour_row (map reading_of quarters.now) (map hour_of hours.now))
+        (range_with_len 0 (length hours.now)) }
     ensures within { RowsWithin rows.new }
 {
     for (h, hour) in hours.iter().enumerate() {
@@ -113,17 +115,17 @@ fn fill_rows(rows: &mut [HourRow], quarters: &[Quarter], hours: &[Hour])
 
 impl Store<'_> {
     ghost use Rattle.store.specs.Demands.{IsDemandOf};
-    ghost use Rattle.store.specs.Months.{first_missing, first_short, hour_rows, no_month, quarters_of, hours_of};
+    ghost use Rattle.store.specs.Months.{first_missing, first_short, hour_rows, quarters_of, hours_of};
     ghost use Rattle.store.specs.Rows.{rows_in};
-    ghost use Rattle.store.specs.Stores.{earlier_peaks_of, months_of};
+    ghost use Rattle.store.specs.Stores.{earlier_peaks_of, month_at, months_of};
 
-    // What a memory, with room for each month and so many items a day, has of the month at place `k`;
-    // none where it is not on file.
+    // What a memory, with room for each month and so many items a day, has of the month at place
+    // `k`; none where it is not on file.
     fn on_file<'m, T>(&self, memory: &'m [T], room: usize, a_day: usize, k: usize) -> &'m [T]
         requires held { room * self.now.started ≤ length memory.now }
         requires roomed { a_day * 31 ≤ room }
-        ensures read { result.now ≡ stretch room k (a_day * (slice_index_or (months_of self.now) k no_month).days) memory.now }
-        ensures counted { length result.now ≡ a_day * (slice_index_or (months_of self.now) k no_month).days }
+        ensures read { result.now ≡ stretch room k (a_day * (month_at self.now k).days) memory.now }
+        ensures counted { length result.now ≡ a_day * (month_at self.now k).days }
         ensures few { length result.now ≤ a_day * 31 }
     {
         match self.month(k) {
@@ -134,8 +136,8 @@ impl Store<'_> {
 
     // Its quarters.
     fn quarters(&self, k: usize) -> &[Quarter]
-        ensures read { map reading_of result.now ≡ (slice_index_or (months_of self.now) k no_month).readings }
-        ensures counted { length result.now ≡ quarters_of (slice_index_or (months_of self.now) k no_month).days }
+        ensures read { map reading_of result.now ≡ (month_at self.now k).readings }
+        ensures counted { length result.now ≡ quarters_of (month_at self.now k).days }
         ensures few { length result.now ≤ MONTH_QUARTERS }
     {
         self.on_file(self.memory.quarters, MONTH_QUARTERS, DAY_QUARTERS, k)
@@ -143,8 +145,8 @@ impl Store<'_> {
 
     // Its hours.
     fn hours_on_file(&self, k: usize) -> &[Hour]
-        ensures read { map hour_of result.now ≡ (slice_index_or (months_of self.now) k no_month).hours }
-        ensures counted { length result.now ≡ hours_of (slice_index_or (months_of self.now) k no_month).days }
+        ensures read { map hour_of result.now ≡ (month_at self.now k).hours }
+        ensures counted { length result.now ≡ hours_of (month_at self.now k).days }
         ensures few { length result.now ≤ MONTH_HOURS }
     {
         self.on_file(self.memory.hours, MONTH_HOURS, DAY_HOURS, k)
@@ -152,7 +154,7 @@ impl Store<'_> {
 
     // The first quarter of the month at place `k` that has no reading.
     fn unread(&self, k: usize) -> Option<usize>
-        ensures first { result ≡ position is_none (slice_index_or (months_of self.now) k no_month).readings }
+        ensures first { result ≡ position is_none (month_at self.now k).readings }
         ensures within { IfSome result (λ quarter. quarter < MONTH_QUARTERS) }
     {
         self.quarters(k)
@@ -162,7 +164,7 @@ impl Store<'_> {
 
     // Its first hour that has no price.
     fn unpriced(&self, k: usize) -> Option<usize>
-        ensures first { result ≡ position (λ hour. is_none hour.price) (slice_index_or (months_of self.now) k no_month).hours }
+        ensures first { result ≡ position (λ hour. is_none hour.price) (month_at self.now k).hours }
         ensures within { IfSome result (λ hour. hour < MONTH_HOURS) }
     {
         self.hours_on_file(k)
@@ -174,7 +176,7 @@ impl Store<'_> {
     /// billed, and past the last month.
     #[tactic(auto, unfolding(crate::specs::Months::first_missing))]
     pub fn missing(&self, k: usize) -> Option<Missing>
-        ensures { result ≡ first_missing (slice_index_or (months_of self.now) k no_month) }
+        ensures { result ≡ first_missing (month_at self.now k) }
     {
         if let Some(quarter) = self.unread(k) {
             return Some(Missing::Reading {
@@ -188,7 +190,10 @@ impl Store<'_> {
     /// The place of the first of the months before place `k` that has not reached a state; `None`
     /// where all have.
     pub fn first_short(&self, state: State, k: usize) -> Option<usize>
-        ensures { MatchOption result (first_short state (months_of self.now) k ≡ min (length (months_of self.now)) k) (λ short. (first_short state (months_of self.now) k ≡ short) × (short < min (length (months_of self.now)) k)) }
+        ensures { MatchOption result
+            (first_short state (months_of self.now) k ≡ min (length (months_of self.now)) k)
+            (λ short. (first_short state (months_of self.now) k ≡ short)
+            × (short < min (length (months_of self.now)) k)) }
     {
         self.months()
             .iter()
@@ -198,7 +203,8 @@ impl Store<'_> {
 
     /// The demand figures of the month at place `k`; `None` where it is not on file.
     pub fn demand(&self, k: usize) -> Option<Demand>
-        ensures { MatchOption result (length (months_of self.now) ≤ k) (IsDemandOf (earlier_peaks_of self.now) (months_of self.now) k) }
+        ensures { MatchOption result (length (months_of self.now) ≤ k)
+            (IsDemandOf (earlier_peaks_of self.now) (months_of self.now) k) }
     {
         let month = self.month(k)?;
         Some(Demand {
@@ -210,7 +216,7 @@ impl Store<'_> {
 
     /// The hours of the month at place `k`; no hours where it is not on file.
     pub fn hours(&self, k: usize) -> MonthHours
-        ensures { rows_in result ≡ hour_rows (slice_index_or (months_of self.now) k no_month) }
+        ensures { rows_in result ≡ hour_rows (month_at self.now k) }
     {
         let hours = self.hours_on_file(k);
         let mut rows = blank_rows();

@@ -1,5 +1,5 @@
 // The months on file.
-ghost use Rattle.std.specs.Prelude.{◌≡◌, ◌+◌, ◌*◌, ◌<◌, ◌≤◌, [], ◌∷◌, ◌++◌, drop, length, take, is_ok, IfSome, MatchOption, OnErr, OnOk, slice_index_or};
+ghost use Rattle.std.specs.Prelude.{◌≡◌, ◌+◌, ◌*◌, ◌<◌, ◌≤◌, [], ◌∷◌, ◌++◌, drop, length, take, ◌↔◌, is_ok, IfSome, IsSome, MatchOption, OnErr, OnOk};
 ghost use Rattle.std.specs.List.{prefix_len};
 ghost use Rattle.store.specs.Records.{PeaksKept};
 ghost use Rattle.store.specs.declared.carried.TheConstants.{RATCHET};
@@ -34,13 +34,13 @@ pub struct Store<'a> {
 }
 
 impl<'a> Store<'a> {
-    ghost use Rattle.store.specs.Months.{earlier_peaks, can_carry, new_month, no_month, peak, quarters_of, with_state};
+    ghost use Rattle.store.specs.Months.{earlier_peaks, can_carry, new_month, peak, quarters_of, with_state};
     ghost use Rattle.store.specs.Posts.{month_with_day, month_with_post, post_answer, post_day_answer, reading_within, start_answer, with_readings};
     ghost use Rattle.store.specs.Records.{record_in};
-    ghost use Rattle.store.specs.Stores.{Alters, earlier_peaks_of, capacity, capacity_of, months_of};
+    ghost use Rattle.store.specs.Stores.{Alters, earlier_peaks_of, capacity, capacity_of, month_at, months_of};
 
-    /// A store without months in the memory that it is lent, whatever stands there. It holds as many
-    /// months as both memories have room for, 48 at the most.
+    /// A store without months in the memory that it is lent, whatever stands there. It holds as
+    /// many months as both memories have room for, 48 at the most.
     pub fn new(quarters: &'a mut [Quarter], hours: &'a mut [Hour]) -> Store<'a>
         ensures months { months_of result ≡ [] }
         ensures before { earlier_peaks_of result ≡ earlier_peaks [] }
@@ -64,8 +64,10 @@ impl<'a> Store<'a> {
     fn capacity(&self) -> usize
         ensures held { result ≡ capacity_of self.now }
         ensures few { self.now.started < result → self.now.started < MOST_MONTHS }
-        ensures quartered { self.now.started < result → MONTH_QUARTERS * self.now.started + MONTH_QUARTERS ≤ length self.now.memory.quarters.now }
-        ensures houred { self.now.started < result → MONTH_HOURS * self.now.started + MONTH_HOURS ≤ length self.now.memory.hours.now }
+        ensures quartered { self.now.started < result
+            → MONTH_QUARTERS * (self.now.started + 1) ≤ length self.now.memory.quarters.now }
+        ensures houred { self.now.started < result
+            → MONTH_HOURS * (self.now.started + 1) ≤ length self.now.memory.hours.now }
     {
         let quarters = self.memory.quarters.len() / MONTH_QUARTERS;
         let hours = self.memory.hours.len() / MONTH_HOURS;
@@ -81,26 +83,28 @@ impl<'a> Store<'a> {
 
     // The record of the month at place `k`, as the store keeps it.
     pub(crate) fn month(&self, k: usize) -> Option<MonthRecord>
-        ensures { MatchOption result (self.now.started ≤ k) (λ month. (k < self.now.started) × (month ≡ record_in self.now.records k)) }
+        ensures { MatchOption result (self.now.started ≤ k)
+            (λ month. (k < self.now.started) × (month ≡ record_in self.now.records k)) }
     {
         self.months().get(k).copied()
     }
 
-    // The days of the month at place `k`; 0 past the last month, which has no quarter and no hour.
+    // The days of the month at place `k`, 0 past the last month, which has no quarter and no hour.
     fn days_of(&self, k: usize) -> usize
-        ensures months { result ≡ (slice_index_or (months_of self.now) k no_month).days }
+        ensures read { result ≡ (month_at self.now k).days }
         ensures within { result ≤ MOST_DAYS }
-        ensures there { 0 < result → (k < self.now.started) × (result ≡ (record_in self.now.records k).days) }
+        ensures there { 0 < result → k < self.now.started }
+        ensures recorded { 0 < result → result ≡ (record_in self.now.records k).days }
     {
-        self.month(k).map_or(0, |month| month.days as usize)
+        self.record(k).map_or(0, |month| month.days as usize)
     }
 
     /// The record of the month at place `k`; `None` past the last month.
     pub fn record(&self, k: usize) -> Option<MonthRecord>
-        ensures there { MatchOption result (length (months_of self.now) ≤ k) (λ _. k < length (months_of self.now)) }
-        ensures days { IfSome result (λ month. month.days ≡ (slice_index_or (months_of self.now) k no_month).days) }
-        ensures state { IfSome result (λ month. month.state ≡ (slice_index_or (months_of self.now) k no_month).state) }
-        ensures peak { IfSome result (λ month. month.peak ≡ peak (slice_index_or (months_of self.now) k no_month)) }
+        ensures there { IsSome result ↔ (k < length (months_of self.now)) }
+        ensures days { IfSome result (λ month. month.days ≡ (month_at self.now k).days) }
+        ensures state { IfSome result (λ month. month.state ≡ (month_at self.now k).state) }
+        ensures peak { IfSome result (λ month. month.peak ≡ peak (month_at self.now k)) }
     {
         self.month(k)
     }
@@ -108,8 +112,10 @@ impl<'a> Store<'a> {
     /// Starts the next month, of 28 to 31 days, with nothing posted; its number, from 1. Refused
     /// where the memory is full, and where months have not so many days.
     pub fn start(&mut self, days: u32) -> Result<u32, Refusal>
-        ensures result { result ≡ start_answer (capacity_of self.old) (length (months_of self.old)) days }
-        ensures months { OnOk result (months_of self.new ≡ months_of self.old ++ (new_month days ∷ [])) }
+        ensures result { result
+            ≡ start_answer (capacity_of self.old) (length (months_of self.old)) days }
+        ensures months { OnOk result
+            (months_of self.new ≡ months_of self.old ++ (new_month days ∷ [])) }
         ensures refused { OnErr result (self.new ≡ self.old) }
         ensures before { earlier_peaks_of self.new ≡ earlier_peaks_of self.old }
         ensures capacity { capacity_of self.new ≡ capacity_of self.old }
@@ -159,11 +165,12 @@ impl<'a> Store<'a> {
         }
     }
 
-    // Writes readings within their limits over as many quarters of the month at place `k`, and keeps
-    // its highest kW.
+    // Writes readings within their limits over as many quarters of the month at place `k`, and
+    // keeps its highest kW.
     fn write_readings(&mut self, k: usize, from: usize, readings: &[Reading])
         requires started { k < self.old.started }
-        requires there { from + length readings.now ≤ quarters_of (record_in self.old.records k).days }
+        requires there { from + length readings.now
+            ≤ quarters_of (record_in self.old.records k).days }
         requires within { prefix_len reading_within readings.now ≡ length readings.now }
         ensures { Alters k (with_readings from readings.now) self.old self.new }
     {
@@ -180,7 +187,7 @@ impl<'a> Store<'a> {
     /// Posts to a quarter or an hour of the month at place `k`, where the last post stands. A month
     /// past the last one has no place.
     pub fn post(&mut self, k: usize, place: usize, post: Post) -> Result<(), PostError>
-        ensures result { result ≡ post_answer (slice_index_or (months_of self.old) k no_month) place post }
+        ensures result { result ≡ post_answer (month_at self.old k) place post }
         ensures posted { OnOk result (Alters k (month_with_post place post) self.old self.new) }
         ensures refused { OnErr result (self.new ≡ self.old) }
     {
@@ -201,8 +208,9 @@ impl<'a> Store<'a> {
     /// Posts the 96 readings of a day of the month at place `k`, where the last post stands; all or
     /// none of them. A month past the last one has no day.
     pub fn post_day(&mut self, k: usize, day: usize, readings: &[Reading]) -> Result<(), PostError>
-        ensures result { result ≡ post_day_answer (slice_index_or (months_of self.old) k no_month) day readings.now }
-        ensures posted { OnOk result (Alters k (month_with_day day readings.now) self.old self.new) }
+        ensures result { result ≡ post_day_answer (month_at self.old k) day readings.now }
+        ensures posted { OnOk result
+            (Alters k (month_with_day day readings.now) self.old self.new) }
         ensures refused { OnErr result (self.new ≡ self.old) }
     {
         if day >= self.days_of(k) {

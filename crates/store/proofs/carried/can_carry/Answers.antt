@@ -9,5 +9,8 @@ use Rattle.store.proofs.carried.can_carry.Goals as goal
 pub returns-then-carried-le-RATCHET : goal.returns-then-carried-le-RATCHET
 returns-then-carried-le-RATCHET c =
     let carried = c.args.carried.now in
-    all_from_yields_List (λ peak. leb peak 1000000) _ _ _ c.all.ensures.ran (YieldsList-from_slice carried cc) (λ x b q k. search (rules, tests))
-    ∙ all_top carried 1000000 ∙ sym (ap (λ few. few && leb (top carried) 1000000) (le-leb (length carried) 24 c.if-carried-le-RATCHET.true))
+    all_from_yields_List (λ peak. leb peak 1000000) _ _ _ c.all.ensures.ran
+    (YieldsList-from_slice carried cc) (λ x b q k. search (rules, tests))
+    ∙ all_top carried 1000000
+    ∙ sym (ap (λ few. few && leb (top carried) 1000000)
+    (le-leb (length carried) 24 c.if-carried-le-RATCHET.true))

@@ -17,18 +17,27 @@ price_or_0 None = refl
 price_limited : (hour : Hour) → price_of (hour_of hour).price ≤ 99999
 price_limited hour =
     let Limited : Option ℕ → Type 0 = λ price. price_of price ≤ 99999 in
-    cond_both (leb hour.price 99999) (Some hour.price) None Limited (λ posted. leb-true hour.price 99999 posted) (λ _. omega arith)
+    cond_both (leb hour.price 99999) (Some hour.price) None Limited
+    (λ posted. leb-true hour.price 99999 posted) (λ _. omega arith)
 
 -- the row that the loop writes
-module _ (quarters : List Quarter) (hours : List Hour) (h : ℕ) (hour : Hour) (row : HourRow) (here : h < length hours) (is : hour ≡ get_or hours h hour) (energy : row.energy ≡ (hour_row (map reading_of quarters) [] h).energy) (price : row.price ≡ unwrap_or (hour_of hour).price 0) (scheduled : row.scheduled ≡ hour.scheduled) where
+module _ (quarters : List Quarter) (hours : List Hour) (h : ℕ) (hour : Hour) (row : HourRow)
+    (here : h < length hours) (is : hour ≡ get_or hours h hour)
+    (energy : row.energy ≡ (hour_row (map reading_of quarters) [] h).energy)
+    (price : row.price ≡ unwrap_or (hour_of hour).price 0) (scheduled : row.scheduled ≡ hour.scheduled) where
   row_is : row ≡ hour_row (map reading_of quarters) (map hour_of hours) h
   row_is =
-      let there : get_or (map hour_of hours) h record { price = None; scheduled = 0 } ≡ hour_of hour = get_or-map hour_of hours h hour _ here ∙ ap hour_of (sym is) in
+      let there : get_or (map hour_of hours) h record { price = None; scheduled = 0 } ≡ hour_of hour =
+      get_or-map hour_of hours h hour _ here ∙ ap hour_of (sym is) in
       let priced = price ∙ price_or_0 (hour_of hour).price in
       rw (there, sym energy, sym priced, sym scheduled)
 
   row_within : row.energy ≤ 4000000 → HourWithin row
-  row_within limited = (limited, rw (price ∙ price_or_0 (hour_of hour).price) (price_limited hour), rw scheduled hour.within)
+  row_within limited = (
+    limited,
+    rw (price ∙ price_or_0 (hour_of hour).price) (price_limited hour),
+    rw scheduled hour.within,
+  )
 
 pub returns : goal.returns
 returns c =
@@ -37,7 +46,8 @@ returns c =
     let room : length hours ≤ length rows = omega (arith, c.requires.room, c.loop-h.auto.rows) in
     record {
       filled =
-          fill_by_all (hour_row (map reading_of c.args.quarters.now) (map hour_of hours)) (take (length hours) rows) (length hours) no_row (length-take-le (length hours) rows room)
+          fill_by_all (hour_row (map reading_of c.args.quarters.now) (map hour_of hours))
+          (take (length hours) rows) (length hours) no_row (length-take-le (length hours) rows room)
           (λ k here. rw get_or-take (c.loop-h.invariant.0 k (omega arith)));
       within = c.loop-h.invariant.1;
     }

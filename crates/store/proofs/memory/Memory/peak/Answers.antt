@@ -6,4 +6,5 @@ use Rattle.store.proofs.memory.Memory.peak.Goals as goal
 pub returns-clause-counted : goal.returns-clause-counted
 unfolding peak_in
 returns-clause-counted c =
-    c.highest_of.ensures.counted ∙ ap (λ quarters. top (map (λ quarter. kw_of (reading_of quarter)) quarters)) c.stretch-month.ensures
+    c.highest_of.ensures.counted
+    ∙ ap (λ quarters. top (map (λ quarter. kw_of (reading_of quarter)) quarters)) c.stretch-month.ensures

@@ -10,11 +10,14 @@ returns c =
     let old = c.args.self.now.quarters.now in
     let readings = c.args.readings.now in
     let part = c.write_over.new.quarters in
-    let many : length part ≡ length readings = sym (length-map part reading_of) ∙ ap length c.write_over.ensures ∙ length-map readings Some in
+    let many : length part ≡ length readings = sym (length-map part reading_of)
+    ∙ ap length c.write_over.ensures ∙ length-map readings Some in
     let n = (c.args.first + length readings) - c.args.first in
-    let written = map_put_mid reading_of old part c.args.first n (map Some readings) c.write_over.ensures (omega arith) (omega (arith, c.requires.there)) in
+    let written = map_put_mid reading_of old part c.args.first n (map Some readings) c.write_over.ensures
+    (omega arith) (omega (arith, c.requires.there)) in
     record {
       quarters = written;
-      size = same_length reading_of old (put_mid c.args.first n old part) c.args.first (map Some readings) written;
+      size = same_length reading_of old (put_mid c.args.first n old part) c.args.first
+          (map Some readings) written;
       hours = refl;
     }

@@ -6,20 +6,24 @@ use Rattle.store.specs.Months.{earlier_peaks}
 use Rattle.store.specs.Records.{first_record, record_in}
 use Rattle.store.specs.Stores.{earlier_peaks_of, capacity_of}
 use Rattle.store.specs.declared.month.MonthRecord.{MonthRecord}
-use Rattle.store.proofs.Posted.{month_kept}
+use Rattle.store.proofs.Alterations.{month_kept}
 use Rattle.store.proofs.Stretches.{months_same}
 use Rattle.store.proofs.store.Store.carry.Goals as goal
 
 -- the records of the months stay, whatever stands for the 24 before them
-kept : (before records : List MonthRecord) (k : ℕ) → length before ≡ 24 → record_in (before ++ drop 24 records) k ≡ record_in records k
+kept : (before records : List MonthRecord) (k : ℕ) → length before ≡ 24
+    → record_in (before ++ drop 24 records) k ≡ record_in records k
 kept before records k many =
     get_or-append_right before (drop 24 records) 24 (24 + k) first_record many (omega arith)
-    ∙ ap (λ n. get_or (drop 24 records) n first_record) (add-sub_cancel_left 24 k) ∙ get_or-drop 24 records k first_record
+    ∙ ap (λ n. get_or (drop 24 records) n first_record) (add-sub_cancel_left 24 k)
+    ∙ get_or-drop 24 records k first_record
 
 -- as many as are carried at the most
-many_aged : (before : List MonthRecord) (carried : List ℕ) → map (λ month. month.peak) before ≡ earlier_peaks carried → length before ≡ 24
+many_aged : (before : List MonthRecord) (carried : List ℕ)
+    → map (λ month. month.peak) before ≡ earlier_peaks carried → length before ≡ 24
 unfolding earlier_peaks
-many_aged before carried are = sym (length-map before _) ∙ ap length are ∙ length-map-range_with_len (λ i. get_or carried (24 - 1 - i) 0) 0 24
+many_aged before carried are = sym (length-map before _) ∙ ap length are
+    ∙ length-map-range_with_len (λ i. get_or carried (24 - 1 - i) 0) 0 24
 
 pub invariant_of-self : goal.invariant_of-self
 invariant_of-self c =
@@ -27,7 +31,8 @@ invariant_of-self c =
     let before = c.write.new.records in
     let many = many_aged before c.args.carried.now c.write.ensures in
     record {
-      recorded = length-append before (drop 24 store.records) ∙ omega (arith, many, length-drop 24 store.records);
+      recorded = length-append before (drop 24 store.records)
+          ∙ omega (arith, many, length-drop 24 store.records);
       few = store.few;
       quartered = store.quartered;
       houred = store.houred;
@@ -42,8 +47,19 @@ returns c =
     let many = many_aged before c.args.carried.now c.write.ensures in
     record {
       result = c.if-not-can_carry.ensures;
-      before = ap (map (λ month. month.peak)) (take-append-le 24 before _ (omega (arith, many)) ∙ take_all 24 before (omega (arith, many))) ∙ c.write.ensures;
+      before = ap (map (λ month. month.peak))
+          (take-append-le 24 before _ (omega (arith, many)) ∙ take_all 24 before (omega (arith, many)))
+          ∙ c.write.ensures;
       refused = tt;
-      months = months_same store _ refl (λ k here. month_kept store _ k (let same = kept before store.records k many in record { days = ap (λ m. m.days) same; state = ap (λ m. m.state) same; readings = refl; hours = refl }));
+      months = months_same store _ refl
+          (λ k here. month_kept store _ k
+          (let same = kept before store.records k many in
+          record {
+            days = ap (λ m. m.days) same;
+            state = ap (λ m. m.state) same;
+            readings = refl;
+            hours =
+                refl;
+          }));
       capacity = refl;
     }

@@ -13,6 +13,11 @@ returns c =
     let store = c.args.self.now in
     let k = c.args.k in
     let records = take store.started (drop 24 store.records) in
-    let many : length (take k records) ≡ min (length (months_of store)) k = simp (length-take, length-drop, length_months store) (omega arith) in
-    let found = position_from_yields_List (λ month. not (has_reached c.args.state month.state)) _ _ c.position.result c.position.ensures.ran (YieldsList-from_take k (YieldsList-from_slice records cc) cc) (λ x b q k. search (rules, tests)) in
-    rw (sym many, sym (first_short_counted store c.args.state k)) (position_fails (λ month. has_reached c.args.state month.state) (take k records) c.position.result found)
+    let many : length (take k records) ≡ min (length (months_of store)) k =
+    simp (length-take, length-drop, length_months store) (omega arith) in
+    let found = position_from_yields_List
+    (λ month. not (has_reached c.args.state month.state)) _ _ c.position.result c.position.ensures.ran
+    (YieldsList-from_take k (YieldsList-from_slice records cc) cc) (λ x b q k. search (rules, tests)) in
+    rw (sym many, sym (first_short_counted store c.args.state k))
+    (position_fails (λ month. has_reached c.args.state month.state)
+    (take k records) c.position.result found)

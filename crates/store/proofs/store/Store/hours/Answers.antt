@@ -7,7 +7,9 @@ use Rattle.store.specs.declared.post.Reading.{Reading}
 use Rattle.store.proofs.store.Store.hours.Goals as goal
 
 -- a month's rows depend on its readings, its hours and their number alone
-rows_of_month : (month : Month) (readings : List (Option Reading)) (hours : List HourOnFile) (n : ℕ) (rows : List HourRow) → readings ≡ month.readings → hours ≡ month.hours → n ≡ hours_of month.days → rows ≡ map (hour_row readings hours) (range_with_len 0 n) → rows ≡ hour_rows month
+rows_of_month : (month : Month) (readings : List (Option Reading)) (hours : List HourOnFile) (n : ℕ)
+    (rows : List HourRow) → readings ≡ month.readings → hours ≡ month.hours → n ≡ hours_of month.days
+    → rows ≡ map (hour_row readings hours) (range_with_len 0 n) → rows ≡ hour_rows month
 unfolding hour_rows
 rows_of_month month readings hours n rows read priced counted filled = cc
 
@@ -15,4 +17,5 @@ pub returns : goal.returns
 unfolding rows_in
 returns c =
     let hours = c.hours_on_file-hours in
-    rows_of_month _ _ _ (length hours.result.now) _ c.quarters.ensures.read hours.ensures.read hours.ensures.counted c.fill_rows.ensures.filled
+    rows_of_month _ _ _ (length hours.result.now) _ c.quarters.ensures.read hours.ensures.read
+    hours.ensures.counted c.fill_rows.ensures.filled

@@ -12,11 +12,14 @@ returns-in-Some g c =
     let k = c.args.k in
     let month = c.in-Some.month in
     let here = c.in-Some.ensures.0 in
-    let days : month.days ≡ (get_or (months_of store) k no_month).days = ap (λ m. m.days) c.in-Some.ensures.1 ∙ sym (days_recorded store k here) in
+    let days : month.days ≡ (get_or (months_of store) k no_month).days =
+    ap (λ m. m.days) c.in-Some.ensures.1 ∙ sym (days_recorded store k here) in
     let few : c.args.a_day * month.days ≤ c.args.a_day * 31 = mul-le-mul_left c.args.a_day month.length.1 in
     let next = mul-le-mul_left c.args.room here in
-    let fits : c.args.room * k + c.args.a_day * month.days ≤ length c.args.memory.now = grind (arith, next, few) in
-    let long : length c.stretch.result.now ≡ c.args.a_day * month.days = ap length c.stretch.ensures ∙ length_stretch c.args.room k (c.args.a_day * month.days) c.args.memory.now fits in
+    let fits : c.args.room * k + c.args.a_day * month.days ≤ length c.args.memory.now =
+    grind (arith, next, few) in
+    let long : length c.stretch.result.now ≡ c.args.a_day * month.days = ap length c.stretch.ensures
+    ∙ length_stretch c.args.room k (c.args.a_day * month.days) c.args.memory.now fits in
     rw (sym days) (record { read = c.stretch.ensures; counted = long; few = omega (arith, long, few) })
 
 pub returns-in-None : goal.returns-in-None

@@ -5,7 +5,7 @@ use Rattle.std.proofs.lemmas.Bool.Decides.{nat_tests}
 use Rattle.store.specs.Months.{new_hour}
 use Rattle.store.specs.Stores.{capacity_of}
 use Rattle.store.specs.declared.post.Reading.{Reading}
-use Rattle.store.proofs.Posted.{before_kept, hours_in, months_started, peak_cleared, peaks_kept, readings_in}
+use Rattle.store.proofs.Alterations.{before_kept, hours_in, months_started, peak_cleared, peaks_kept, readings_in}
 use Rattle.store.proofs.Stretches.{length_months}
 use Rattle.store.proofs.store.Store.start.Goals as goal
 
@@ -24,16 +24,19 @@ returns-clause-months c =
     let k = store.started in
     let days = c.args.days in
     let few : k < 48 = omega arith in
-    let written = c.clear.ensures.quarters ∙ ap (λ a. sets (readings_in store) a (replicate (96 * days) None)) (sym (add-zero (2976 * k))) in
-    let cleared = c.clear.ensures.hours ∙ ap (λ a. sets (hours_in store) a (replicate (24 * days) new_hour)) (sym (add-zero (744 * k))) in
-    months_started store _ days _ few (omega arith) (omega arith) (omega arith) refl refl refl refl written cleared
+    let written = c.clear.ensures.quarters
+    ∙ ap (λ a. sets (readings_in store) a (replicate (96 * days) None)) (sym (add-zero (2976 * k))) in
+    let cleared = c.clear.ensures.hours
+    ∙ ap (λ a. sets (hours_in store) a (replicate (24 * days) new_hour)) (sym (add-zero (744 * k))) in
+    months_started store _ days _ few (omega arith) (omega arith)
+    (omega arith) refl refl refl refl written cleared
 
 pub returns-clause-before : goal.returns-clause-before
 returns-clause-before c = before_kept c.args.self.now _ c.args.self.now.started _ (omega arith) refl
 
 pub returns-clause-capacity : goal.returns-clause-capacity
 unfolding capacity_of
-returns-clause-capacity c = rw (c.clear.ensures.sizes.0, c.clear.ensures.sizes.1) refl
+returns-clause-capacity c = rw (c.clear.ensures.quarters_size, c.clear.ensures.hours_size) refl
 
 pub invariant_of-self-2-clause-peaks : goal.invariant_of-self-2-clause-peaks
 invariant_of-self-2-clause-peaks c =
@@ -43,5 +46,8 @@ invariant_of-self-2-clause-peaks c =
     let few : k < 48 = omega arith in
     let quarters = c.clear.new.self.quarters.now in
     let many = length-replicate {A = Option Reading} (96 * days) None in
-    let written = c.clear.ensures.quarters ∙ ap (λ a. sets (readings_in store) a (replicate (96 * days) None)) (sym (add-zero (2976 * k))) in
-    peaks_kept store k 0 (replicate (96 * days) None) (omega (arith, many)) quarters written _ few (peak_cleared quarters store.memory.quarters.now k days (omega arith) written) (k + 1) (λ j h other. omega (arith, other))
+    let written = c.clear.ensures.quarters
+    ∙ ap (λ a. sets (readings_in store) a (replicate (96 * days) None)) (sym (add-zero (2976 * k))) in
+    peaks_kept store k 0 (replicate (96 * days) None) (omega (arith, many)) quarters written _ few
+    (peak_cleared quarters store.memory.quarters.now k days (omega arith) written) (k + 1)
+    (λ j h other. omega (arith, other))

@@ -9,5 +9,7 @@ use Rattle.store.proofs.store.Store.unread.Goals as goal
 pub returns-clause-first : goal.returns-clause-first
 returns-clause-first c =
     let quarters = c.quarters in
-    position_from_yields_List (λ quarter. is_none (reading_of quarter)) _ _ c.position.result c.position.ensures.ran (YieldsList-from_slice quarters.result.now cc) (λ x b q k. search (rules, tests))
+    position_from_yields_List
+    (λ quarter. is_none (reading_of quarter)) _ _ c.position.result c.position.ensures.ran
+    (YieldsList-from_slice quarters.result.now cc) (λ x b q k. search (rules, tests))
     ∙ sym (position_map is_none reading_of quarters.result.now) ∙ ap (position is_none) quarters.ensures.read
