@@ -1,5 +1,6 @@
 pub mod Texts
-pub mod Numbers
-pub mod Again
-pub mod LineTexts
+pub mod Parsing
+pub mod ReadsBack
+pub mod LineOrder
+pub mod LineWords
 pub mod VerbWords

@@ -1,97 +1,86 @@
--- The rate or rider that a word and the figures after it name.
-use Rattle.std.specs.Prelude.{ℕ, ◌==◌, cond, List, [], ◌∷◌, length, ℤ, pos, Option, Some, None, bytes_eq, codes, slice_index_or}
-use Rattle.std.specs.Option.{option_and_then, option_map}
-use Rattle.rates.specs.Dos.{dos_2009}
-use Rattle.rates.specs.Dts.{dts_2007, gts_2007}
-use Rattle.rates.specs.Sts.{sts_2009}
-use Rattle.rates.specs.Xts.{xts_2007}
-use Rattle.rates.specs.declared.dos.sheet.DosDraft.{DosDraft}
-use Rattle.rates.specs.declared.dts.sheet.DtsDraft.{DtsDraft}
-use Rattle.rates.specs.declared.sts.sheet.StsDraft.{StsDraft}
-use Rattle.rates.specs.declared.xts.sheet.XtsDraft.{XtsDraft}
-use Rattle.riders.specs.Credit.{psc_2009}
-use Rattle.riders.specs.declared.credit.sheet.CreditDraft.{CreditDraft}
-use Rattle.riders.specs.declared.energy.sheet.EnergyDraft.{EnergyDraft}
-use Rattle.riders.specs.declared.percent.sheet.PercentDraft.{PercentDraft}
+-- Rates and riders in words: the kind of a sheet, and its figures.
+use Rattle.std.specs.Prelude.{ℕ, ◌+◌, ◌==◌, ◌++◌, if◌then◌else◌, List, ◌∷◌, length, map, take, drop, ℤ, Option, Some, None, bytes_eq, codes}
+use Rattle.std.specs.Fmt.{signed_decimal}
+use Rattle.tariff.specs.Sheets.{FigureList, OwnPlaces}
+use Rattle.tariff.specs.Sheets.{values_of as figure_values}
+use Rattle.piles.specs.Rates.{rate_figures, rate_from_figures, rate_kind, rate_own, rate_published}
+use Rattle.piles.specs.Riders.{rider_figures, rider_from_figures, rider_kind, rider_own, rider_published}
 use Rattle.piles.specs.declared.rate.RateDraft.{RateDraft}
-use Rattle.piles.specs.declared.rate.RateDraft.TheVariants.{Dts, Gts, Xts, Dos, Sts}
+use Rattle.piles.specs.declared.rate.RateKind.{RateKind}
+use Rattle.piles.specs.declared.rate.RateKind.TheVariants.{Dts, Gts, Xts, Dos, Sts}
 use Rattle.piles.specs.declared.rider.RiderDraft.{RiderDraft}
-use Rattle.piles.specs.declared.rider.RiderDraft.TheVariants.{Energy, Percent, Credit}
-use Rattle.journal.specs.Calls.{of}
-use Rattle.journal.specs.Said.{all_said, figure_of}
+use Rattle.piles.specs.declared.rider.RiderKind.{RiderKind}
+use Rattle.piles.specs.declared.rider.RiderKind.TheVariants.{Energy, Percent, Credit}
+use Rattle.journal.specs.Tokens.{figure_of, values_of}
+use Rattle.journal.specs.Words.{◌>>=◌, first_word}
 
-abbrev pub figure_at : List ℤ → ℕ → ℤ
-figure_at figures place = slice_index_or figures place (pos 0)
+-- the words that name kinds
+abbrev pub rate_word : RateKind → List ℕ
+rate_word Dts = codes "dts"
+rate_word Gts = codes "gts"
+rate_word Xts = codes "xts"
+rate_word Dos = codes "dos"
+rate_word Sts = codes "sts"
 
--- all the figures, or the published ones where none is given
-abbrev pub dts_of : DtsDraft → List ℤ → Option DtsDraft
-dts_of published figures = cond (length figures == 0) (Some published) (of 8 figures (record {
-  system_demand = figure_at figures 0;
-  system_energy = figure_at figures 1;
-  delivery_demand = figure_at figures 2;
-  delivery_fixed = figure_at figures 3;
-  operating_reserve = figure_at figures 4;
-  voltage_control = figure_at figures 5;
-  other_support = figure_at figures 6;
-  power_factor = figure_at figures 7;
-}))
+abbrev pub rate_named : List ℕ → Option RateKind
+rate_named word =
+    if bytes_eq word (rate_word Dts) then Some Dts
+    else if bytes_eq word (rate_word Gts) then Some Gts
+    else if bytes_eq word (rate_word Xts) then Some Xts
+    else if bytes_eq word (rate_word Dos) then Some Dos
+    else if bytes_eq word (rate_word Sts) then Some Sts
+    else None
 
-abbrev pub xts_of : List ℤ → Option XtsDraft
-xts_of figures = cond (length figures == 0) (Some xts_2007) (of 4 figures (record {
-  interconnection = figure_at figures 0;
-  operating_reserve = figure_at figures 1;
-  voltage_control = figure_at figures 2;
-  other_support = figure_at figures 3;
-}))
+abbrev pub rider_word : RiderKind → List ℕ
+rider_word Energy = codes "energy"
+rider_word Percent = codes "percent"
+rider_word Credit = codes "psc"
 
--- the point's own two figures first, and then the others, or the published ones
-abbrev pub dos_of : List ℤ → Option DosDraft
-dos_of figures = cond (length figures == 2) (Some (dos_2009 (figure_at figures 0) (figure_at figures 1))) (of 4 figures (record {
-  energy = figure_at figures 2;
-  transaction_fee = figure_at figures 3;
-  opportunity_capacity = figure_at figures 0;
-  loss_factor = figure_at figures 1;
-}))
+abbrev pub rider_named : List ℕ → Option RiderKind
+rider_named word =
+    if bytes_eq word (rider_word Energy) then Some Energy
+    else if bytes_eq word (rider_word Percent) then Some Percent
+    else if bytes_eq word (rider_word Credit) then Some Credit
+    else None
 
-abbrev pub sts_of : List ℤ → Option StsDraft
-sts_of figures = cond (length figures == 2) (Some (sts_2009 (figure_at figures 0) (figure_at figures 1))) (of 3 figures (record {
-  loss_factor = figure_at figures 0;
-  unit_rating = figure_at figures 1;
-  unit_connection = figure_at figures 2;
-}))
+-- the figures of a sheet as a line has them: the customer's own, and then the others
+abbrev pub line_order : OwnPlaces → List ℤ → List ℤ
+line_order own figures =
+    take own.count (drop own.first figures) ++ take own.first figures ++ drop (own.first + own.count) figures
 
-abbrev pub energy_of : List ℤ → Option EnergyDraft
-energy_of figures = of 2 figures (record { number = figure_at figures 0; rate = figure_at figures 1 })
+-- and back: the figures of a line as the sheet has them
+abbrev pub sheet_order : OwnPlaces → List ℤ → List ℤ
+sheet_order own figures = line_order (record { first = own.count; count = own.first }) figures
 
-abbrev pub percent_of : List ℤ → Option PercentDraft
-percent_of figures = of 2 figures (record { number = figure_at figures 0; factor = figure_at figures 1 })
+-- where only the customer's own figures are given, the published sheet has the others
+abbrev pub complete_figures : OwnPlaces → List ℤ → List ℤ → List ℤ
+complete_figures own published given =
+    if length given == own.count then given ++ take own.first published ++ drop (own.first + own.count) published
+    else given
 
--- the rider's number first
-abbrev pub credit_of : List ℤ → Option CreditDraft
-credit_of figures = cond (length figures == 1) (Some (psc_2009 (figure_at figures 0))) (of 6 figures (record {
-  number = figure_at figures 0;
-  first = figure_at figures 1;
-  second = figure_at figures 2;
-  third = figure_at figures 3;
-  last = figure_at figures 4;
-  fixed = figure_at figures 5;
-}))
+-- the draft that words name: the word of a kind, and figures
+abbrev pub draft_of : {K D : Type 0} → (List ℕ → Option K) → (K → OwnPlaces) → (K → D) → (D → FigureList)
+    → (K → List ℤ → Option D) → List (List ℕ) → Option D
+draft_of named own published figures from_figures words = do
+  name ← first_word words
+  kind ← named name.0
+  given ← values_of figure_of name.1
+  from_figures kind (sheet_order (own kind) (complete_figures (own kind) (figure_values (figures (published kind))) given))
 
-abbrev pub rate_of : List ℕ → List ℤ → Option RateDraft
-rate_of kind figures =
-    cond (bytes_eq kind (codes "dts")) (option_map Dts (dts_of dts_2007 figures))
-    (cond (bytes_eq kind (codes "gts")) (option_map Gts (dts_of gts_2007 figures))
-    (cond (bytes_eq kind (codes "xts")) (option_map Xts (xts_of figures))
-    (cond (bytes_eq kind (codes "dos")) (option_map Dos (dos_of figures))
-    (cond (bytes_eq kind (codes "sts")) (option_map Sts (sts_of figures)) None))))
+-- the words that write a draft
+abbrev pub draft_words : {K D : Type 0} → (K → List ℕ) → (D → K) → (K → OwnPlaces) → (D → FigureList) → D
+    → List (List ℕ)
+draft_words word kind_of own figures draft =
+    word (kind_of draft) ∷ map signed_decimal (line_order (own (kind_of draft)) (figure_values (figures draft)))
 
-abbrev pub rider_of : List ℕ → List ℤ → Option RiderDraft
-rider_of kind figures =
-    cond (bytes_eq kind (codes "energy")) (option_map Energy (energy_of figures))
-    (cond (bytes_eq kind (codes "percent")) (option_map Percent (percent_of figures))
-    (cond (bytes_eq kind (codes "psc")) (option_map Credit (credit_of figures)) None))
+abbrev pub rate_of : List (List ℕ) → Option RateDraft
+rate_of words = draft_of rate_named rate_own rate_published rate_figures rate_from_figures words
 
--- a word, and figures after it
-abbrev pub drafted_by : {D : Type 0} → (List ℕ → List ℤ → Option D) → List (List ℕ) → Option D
-drafted_by drafts [] = None
-drafted_by drafts (kind ∷ words) = option_and_then (drafts kind) (all_said figure_of words)
+abbrev pub rider_of : List (List ℕ) → Option RiderDraft
+rider_of words = draft_of rider_named rider_own rider_published rider_figures rider_from_figures words
+
+abbrev pub rate_words : RateDraft → List (List ℕ)
+rate_words draft = draft_words rate_word rate_kind rate_own rate_figures draft
+
+abbrev pub rider_words : RiderDraft → List (List ℕ)
+rider_words draft = draft_words rider_word rider_kind rider_own rider_figures draft

@@ -1,10 +1,9 @@
 pub mod Words
-pub mod Said
+pub mod Tokens
 pub mod Verbs
-pub mod Misreadings
-pub mod Calls
-pub mod Posts
+pub mod PostKinds
+pub mod ParseErrors
+pub mod Numbers
 pub mod Drafts
 pub mod Lines
-pub mod Spoken
-pub mod Written
+pub mod LineText

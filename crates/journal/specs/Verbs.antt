@@ -1,42 +1,9 @@
 -- The words that calls begin with.
-use Rattle.std.specs.Prelude.{ℕ, cond, List, [], ◌∷◌, Option, Some, None, bytes_eq, codes}
+use Rattle.std.specs.Prelude.{ℕ, ◌==◌, List, Option, bytes_eq, codes, find}
+use Rattle.std.specs.List.{before_first}
+use Rattle.journal.specs.declared.verb.TheConstants.Verb.{ALL}
 use Rattle.journal.specs.declared.verb.Verb.{Verb}
 use Rattle.journal.specs.declared.verb.Verb.TheVariants.{Memory, Rate, Rider, Open, Start, Reading, Readings, Day, Price, Prices, Schedule, Schedules, Load, Bill, TrueUp, Finalise, Due, Total, Text, Ledger, Statement}
-
-abbrev pub verb_word : Verb → List ℕ
-verb_word Memory = codes "memory"
-verb_word Rate = codes "rate"
-verb_word Rider = codes "rider"
-verb_word Open = codes "open"
-verb_word Start = codes "start"
-verb_word Reading = codes "reading"
-verb_word Readings = codes "readings"
-verb_word Day = codes "day"
-verb_word Price = codes "price"
-verb_word Prices = codes "prices"
-verb_word Schedule = codes "schedule"
-verb_word Schedules = codes "schedules"
-verb_word Load = codes "load"
-verb_word Bill = codes "bill"
-verb_word TrueUp = codes "true-up"
-verb_word Finalise = codes "finalise"
-verb_word Due = codes "due"
-verb_word Total = codes "total"
-verb_word Text = codes "text"
-verb_word Ledger = codes "ledger"
-verb_word Statement = codes "statement"
-
-abbrev pub all_verbs : List Verb
-all_verbs =
-    Memory ∷ Rate ∷ Rider ∷ Open ∷ Start ∷ Reading ∷ Readings ∷ Day ∷ Price ∷ Prices ∷ Schedule ∷ Schedules ∷ Load ∷ Bill ∷ TrueUp ∷ Finalise ∷ Due ∷ Total ∷ Text ∷ Ledger ∷ Statement ∷ []
-
--- the first of these that begins with the word
-abbrev pub named_among : List Verb → List ℕ → Option Verb
-named_among [] word = None
-named_among (verb ∷ verbs) word = cond (bytes_eq word (verb_word verb)) (Some verb) (named_among verbs word)
-
-abbrev pub verb_named : List ℕ → Option Verb
-verb_named word = named_among all_verbs word
 
 -- what a call is written as
 abbrev pub verb_form : Verb → List ℕ
@@ -61,3 +28,14 @@ verb_form Total = codes "total MONTH LINE"
 verb_form Text = codes "text ENTRY"
 verb_form Ledger = codes "ledger"
 verb_form Statement = codes "statement MONTH"
+
+-- the form's first word
+unfoldable pub verb_word : Verb → List ℕ
+verb_word verb = before_first (λ byte. byte == 32) (verb_form verb)
+
+-- the first of these verbs that has the word
+abbrev pub first_named : List ℕ → List Verb → Option Verb
+first_named word verbs = find (λ verb. bytes_eq word (verb_word verb)) verbs
+
+abbrev pub verb_named : List ℕ → Option Verb
+verb_named word = first_named word ALL

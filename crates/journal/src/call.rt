@@ -1,77 +1,63 @@
 // The calls that a line can write down.
+ghost use Rattle.std.specs.Prelude.{◌≡◌, Some, Ok, IfOk, string_bytes};
+ghost use Rattle.journal.specs.LineText.{IsWritable, line_text, parts_of};
+ghost use Rattle.journal.specs.Lines.{parse_result, value_of};
+ghost use Rattle.journal.specs.Words.{uncommented, words_of};
+
+use crate::line_text::write_words;
+use crate::post_kind::PostKind;
+use crate::verb::Verb;
 use piles::{RateDraft, RiderDraft};
-use store::Reading;
+use std::alloc::{AllocError, Global};
+use store::{Post, Reading};
 
-// What a file that is loaded holds, line by line.
-#[derive(Clone, Copy, PartialEq, Eq, Debug)]
-pub enum Posts {
-    Readings,
-    Prices,
-    Schedule,
-}
-
-// A call, with its numbers as the line has them: whether they lie within their limits is for whoever
-// performs it.
+/// A call, with its numbers as the line has them: whether they lie within their limits is for
+/// whoever performs it. Months are numbered from 1; days, quarters, hours and entries from 0.
 #[derive(Drop)]
 pub enum Call<'a> {
+    /// How many months and entries the book has room for.
     Memory {
         months: u32,
         entries: u32,
     },
+    /// The rate that prices.
     Rate(RateDraft),
+    /// A rider over what prices already.
     Rider(RiderDraft),
+    /// The point's code, its demands in kW, and the peaks of the months before, the latest first.
     Open {
         code: &'a str,
         contract: u32,
         substation: u32,
         carried: Vec<u32>,
     },
+    /// One month more.
     Start {
         days: u32,
     },
-    Reading {
+    /// What is posted to one quarter or hour.
+    Post {
         month: u32,
-        quarter: u32,
-        kw: u32,
-        kva: u32,
+        place: u32,
+        post: Post,
     },
-    Readings {
+    /// The same posted to each quarter or hour from the first to the last.
+    PostRange {
         month: u32,
         first: u32,
         last: u32,
-        kw: u32,
-        kva: u32,
+        post: Post,
     },
-    Day {
+    /// A day's readings, quarter by quarter.
+    PostDay {
         month: u32,
         day: u32,
         code: &'a str,
         readings: Vec<Reading>,
     },
-    Price {
-        month: u32,
-        hour: u32,
-        cents: u32,
-    },
-    Prices {
-        month: u32,
-        first: u32,
-        last: u32,
-        cents: u32,
-    },
-    Schedule {
-        month: u32,
-        hour: u32,
-        kw: u32,
-    },
-    Schedules {
-        month: u32,
-        first: u32,
-        last: u32,
-        kw: u32,
-    },
+    /// A file of posts.
     Load {
-        what: Posts,
+        kind: PostKind,
         month: u32,
         file: &'a str,
     },
@@ -84,18 +70,85 @@ pub enum Call<'a> {
     Finalise {
         month: u32,
     },
+    /// Whether pricing the month now would alter a line.
     Due {
         month: u32,
     },
+    /// What the month's entries for a line, numbered from 1, come to.
     Total {
         month: u32,
         line: u32,
     },
+    /// One entry of the ledger as text.
     Text {
         entry: u32,
     },
+    /// All entries as text.
     Ledger,
+    /// A month for people.
     Statement {
         month: u32,
     },
+}
+
+impl Call<'_> {
+    /// The verb that its line begins with.
+    pub fn verb(&self) -> Verb
+        ensures { result ≡ (parts_of self.now).0 }
+    {
+        match self {
+            Call::Memory { .. } => Verb::Memory,
+            Call::Rate(_) => Verb::Rate,
+            Call::Rider(_) => Verb::Rider,
+            Call::Open { .. } => Verb::Open,
+            Call::Start { .. } => Verb::Start,
+            Call::Post {
+                post: Post::Reading(_),
+                ..
+            } => Verb::Reading,
+            Call::Post {
+                post: Post::Price(_),
+                ..
+            } => Verb::Price,
+            Call::Post {
+                post: Post::Scheduled(_),
+                ..
+            } => Verb::Schedule,
+            Call::PostRange {
+                post: Post::Reading(_),
+                ..
+            } => Verb::Readings,
+            Call::PostRange {
+                post: Post::Price(_),
+                ..
+            } => Verb::Prices,
+            Call::PostRange {
+                post: Post::Scheduled(_),
+                ..
+            } => Verb::Schedules,
+            Call::PostDay { .. } => Verb::Day,
+            Call::Load { .. } => Verb::Load,
+            Call::Bill { .. } => Verb::Bill,
+            Call::TrueUp { .. } => Verb::TrueUp,
+            Call::Finalise { .. } => Verb::Finalise,
+            Call::Due { .. } => Verb::Due,
+            Call::Total { .. } => Verb::Total,
+            Call::Text { .. } => Verb::Text,
+            Call::Ledger => Verb::Ledger,
+            Call::Statement { .. } => Verb::Statement,
+        }
+    }
+
+    /// The line that writes it down. It reads as the call again, where the texts that the call names
+    /// are words: without a space and without `#`.
+    pub fn write(&self, alloc: Global) -> Result<String, AllocError>
+        ensures text { IfOk result (λ line. string_bytes line ≡ line_text self.now) }
+        ensures again { IfOk result (λ line. IsWritable self.now →
+            parse_result (words_of (uncommented (string_bytes line)))
+            ≡ Ok (Some (value_of self.now))) }
+    {
+        let mut line = String::from_str(alloc, self.verb().word())?;
+        write_words(alloc, &mut line, self)?;
+        Ok(line)
+    }
 }

@@ -1,20 +1,20 @@
-// The desk's journal: a line read into the call that it writes down, and a call written as a line.
+//! The desk's journal: a line read into the call that it writes down, and a call written as a line.
 
 #![tactic(auto)]
 
 mod call;
-mod counted;
 mod drafts;
-mod misread;
-mod post;
+mod line_text;
+mod numbers;
+mod parse_error;
+mod post_kind;
 mod reader;
-mod said;
+mod token;
 mod verb;
 mod words;
-mod writer;
 
-pub use call::{Call, Posts};
-pub use misread::Misread;
-pub use post::Post;
+pub use call::Call;
+pub use parse_error::ParseError;
+pub use post_kind::PostKind;
 pub use reader::read;
 pub use verb::Verb;

@@ -1,7 +1,8 @@
 // The word that a call begins with.
 ghost use Rattle.std.specs.Prelude.{◌≡◌};
-ghost use Rattle.journal.specs.Verbs.{verb_form, verb_named, verb_word};
+ghost use Rattle.journal.specs.Verbs.{first_named, verb_form, verb_named, verb_word};
 
+/// The word that a call begins with.
 #[derive(Clone, Copy, PartialEq, Eq, Debug)]
 pub enum Verb {
     Memory,
@@ -28,64 +29,51 @@ pub enum Verb {
 }
 
 impl Verb {
+    /// All of them, in the order in which a journal has use for them.
+    pub const ALL: [Verb; 21] = [
+        Verb::Memory,
+        Verb::Rate,
+        Verb::Rider,
+        Verb::Open,
+        Verb::Start,
+        Verb::Reading,
+        Verb::Readings,
+        Verb::Day,
+        Verb::Price,
+        Verb::Prices,
+        Verb::Schedule,
+        Verb::Schedules,
+        Verb::Load,
+        Verb::Bill,
+        Verb::TrueUp,
+        Verb::Finalise,
+        Verb::Due,
+        Verb::Total,
+        Verb::Text,
+        Verb::Ledger,
+        Verb::Statement,
+    ];
+
+    /// The verb of this word; none where no call begins with it.
     pub fn named(word: &str) -> Option<Verb>
         ensures { result ≡ verb_named word.now }
     {
-        match word {
-            "memory" => Some(Verb::Memory),
-            "rate" => Some(Verb::Rate),
-            "rider" => Some(Verb::Rider),
-            "open" => Some(Verb::Open),
-            "start" => Some(Verb::Start),
-            "reading" => Some(Verb::Reading),
-            "readings" => Some(Verb::Readings),
-            "day" => Some(Verb::Day),
-            "price" => Some(Verb::Price),
-            "prices" => Some(Verb::Prices),
-            "schedule" => Some(Verb::Schedule),
-            "schedules" => Some(Verb::Schedules),
-            "load" => Some(Verb::Load),
-            "bill" => Some(Verb::Bill),
-            "true-up" => Some(Verb::TrueUp),
-            "finalise" => Some(Verb::Finalise),
-            "due" => Some(Verb::Due),
-            "total" => Some(Verb::Total),
-            "text" => Some(Verb::Text),
-            "ledger" => Some(Verb::Ledger),
-            "statement" => Some(Verb::Statement),
-            _ => None,
-        }
+        first_named(&Verb::ALL, word)
     }
 
+    /// The word: what its form begins with.
+    #[tactic(auto, unfolding(crate::specs::Verbs::verb_word))]
     pub fn word(self) -> &'static str
         ensures { result.now ≡ verb_word self }
     {
-        match self {
-            Verb::Memory => "memory",
-            Verb::Rate => "rate",
-            Verb::Rider => "rider",
-            Verb::Open => "open",
-            Verb::Start => "start",
-            Verb::Reading => "reading",
-            Verb::Readings => "readings",
-            Verb::Day => "day",
-            Verb::Price => "price",
-            Verb::Prices => "prices",
-            Verb::Schedule => "schedule",
-            Verb::Schedules => "schedules",
-            Verb::Load => "load",
-            Verb::Bill => "bill",
-            Verb::TrueUp => "true-up",
-            Verb::Finalise => "finalise",
-            Verb::Due => "due",
-            Verb::Total => "total",
-            Verb::Text => "text",
-            Verb::Ledger => "ledger",
-            Verb::Statement => "statement",
+        let form = self.form();
+        match form.split_once(' ') {
+            Some((word, _)) => word,
+            None => form,
         }
     }
 
-    // What a call of it is written as.
+    /// What a call of it is written as.
     pub fn form(self) -> &'static str
         ensures { result.now ≡ verb_form self }
     {
@@ -115,4 +103,11 @@ impl Verb {
             Verb::Statement => "statement MONTH",
         }
     }
+}
+
+// The first of these verbs that has the word.
+fn first_named(verbs: &[Verb], word: &str) -> Option<Verb>
+    ensures { result ≡ first_named word.now verbs.now }
+{
+    verbs.iter().copied().find(|verb| verb.word() == word)
 }

@@ -1,10 +1,10 @@
-// Tests of the journal's lines.
+//! Tests of the journal's lines.
 
 #![tactic(auto)]
 
 #[cfg(test)]
 mod lines;
 #[cfg(test)]
-mod misread;
+mod parse_errors;
 #[cfg(test)]
 mod posts;

@@ -1,10 +1,10 @@
 // Each form of a line is read, and the call that it writes down is written as that line.
-use journal::{Call, Posts, read};
+use journal::{Call, PostKind, read};
 use piles::{RateDraft, RiderDraft};
 use rates::dts::GTS_2007;
 use std::alloc::Global;
 use std::test::Fail;
-use store::Reading;
+use store::{Post, Reading};
 
 fn call(alloc: Global, line: &str) -> Result<Call<'_>, Fail> {
     Ok(read(alloc, line)?.ok_or("a line without a call")?)
@@ -94,21 +94,20 @@ fn spaces_and_comments_say_nothing(rt: HostRuntime) -> Result<(), Fail> {
 // Each number in its place.
 #[test]
 fn numbers_stand_in_their_places(rt: HostRuntime) -> Result<(), Fail> {
-    let Call::Readings {
+    let Call::PostRange {
         month,
         first,
         last,
-        kw,
-        kva,
+        post: Post::Reading(Reading { kw, kva }),
     } = call(rt.alloc(), "readings 1 2 3 4 5")?
     else {
         return Err("readings were read as another call".into());
     };
     assert_eq!(rt; [month, first, last, kw, kva], [1, 2, 3, 4, 5]);
-    let Call::Load { what, month, file } = call(rt.alloc(), "load prices 6 pool.csv")? else {
+    let Call::Load { kind, month, file } = call(rt.alloc(), "load prices 6 pool.csv")? else {
         return Err("a load was read as another call".into());
     };
-    assert_eq!(rt; what, Posts::Prices);
+    assert_eq!(rt; kind, PostKind::Price);
     assert_eq!(rt; month, 6);
     assert_eq!(rt; file, "pool.csv");
     Ok(())
@@ -149,7 +148,7 @@ fn lists_may_be_of_any_length(rt: HostRuntime) -> Result<(), Fail> {
     assert_eq!(rt; code, "PLANT001");
     assert_eq!(rt; [contract, substation], [1, 2]);
     assert_eq!(rt; carried.as_slice(), [3, 4].as_slice());
-    let Call::Day { readings, .. } = call(rt.alloc(), "day 1 2 PLANT001 3/4 5/6")? else {
+    let Call::PostDay { readings, .. } = call(rt.alloc(), "day 1 2 PLANT001 3/4 5/6")? else {
         return Err("a day was read as another call".into());
     };
     assert_eq!(rt; readings.len(), 2);
