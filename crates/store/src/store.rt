@@ -16,7 +16,7 @@ use tariff::Refusal;
 pub const MOST_MONTHS: usize = 48;
 
 // The records of the months that the ratchet looks back before month 1, and of the store's own.
-pub(crate) const RECORDS: usize = 72;
+pub(crate) const RECORDS: usize = RATCHET + MOST_MONTHS;
 
 /// The months started in the lent memory, with the peaks of the months before them. Months are
 /// named by their place from 0, and so are the quarters, hours and days of a month.
