@@ -1,7 +1,7 @@
 // The months on file.
 ghost use Rattle.std.specs.Prelude.{◌≡◌, ◌+◌, ◌*◌, ◌<◌, ◌≤◌, [], ◌∷◌, ◌++◌, drop, length, take, ◌↔◌, is_ok, IfSome, IsSome, MatchOption, OnErr, OnOk};
 ghost use Rattle.std.specs.List.{prefix_len};
-ghost use Rattle.store.specs.Records.{PeaksKept};
+ghost use Rattle.store.specs.Records.{KeepsPeaks};
 ghost use Rattle.store.specs.declared.carried.TheConstants.{RATCHET};
 ghost use Rattle.store.specs.declared.memory.TheConstants.{MONTH_HOURS, MONTH_QUARTERS};
 ghost use Rattle.store.specs.declared.store.TheConstants.{MOST_MONTHS, RECORDS};
@@ -30,7 +30,7 @@ pub struct Store<'a> {
     ghost few: { started ≤ MOST_MONTHS },
     ghost quartered: { MONTH_QUARTERS * started ≤ length memory.quarters.now },
     ghost houred: { MONTH_HOURS * started ≤ length memory.hours.now },
-    ghost peaks: { PeaksKept records started memory.quarters.now },
+    ghost peaks: { KeepsPeaks records started memory.quarters.now },
 }
 
 impl<'a> Store<'a> {
