@@ -1,5 +1,6 @@
-//! The pricing of a month of transmission service: what is billed for, the lines of a statement, exact money and its
-//! one rounding, sheets of figures, and what a schedule is that prices. Free of the heap: it allocates nothing.
+//! The pricing of a month of transmission service: what is billed for, the lines of a statement,
+//! exact money and its one rounding, sheets of figures, and what a schedule is that prices. Free of
+//! the heap: it allocates nothing.
 
 #![tactic(auto)]
 
