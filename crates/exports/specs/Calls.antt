@@ -11,19 +11,23 @@ use Rattle.exports.specs.declared.call.CallRecord.{CallRecord}
 
 -- the kinds of calls in the order of their numbers, from 0
 abbrev pub call_kinds : List CallKind
-call_kinds = Open ∷ Start ∷ PostReading ∷ PostDay ∷ PostPrice ∷ PostSchedule ∷ Bill ∷ TrueUp ∷ Finalise ∷ Due ∷ Total ∷ []
+call_kinds =
+    Open ∷ Start ∷ PostReading ∷ PostDay ∷ PostPrice ∷ PostSchedule ∷ Bill ∷ TrueUp ∷ Finalise ∷ Due ∷ Total ∷ []
 
 -- so many items of a list from a place on, where it has them
 abbrev pub part_of : {X : Type 0} → List X → ℕ → ℕ → Option (List X)
-part_of items from count = if nat_le (from + count) (length items) then Some (take count (drop from items)) else None
+part_of items from count =
+    if nat_le (from + count) (length items) then Some (take count (drop from items)) else None
 
 -- the call of each kind, with the lists lent beside its record; none where a part does not lie in its list
 abbrev pub call_of_kind : List ℕ → List Reading → CallRecord → CallKind → Option Call
-call_of_kind carried readings r Open = option_map (opens r.code r.first r.second) (part_of carried r.from r.count)
+call_of_kind carried readings r Open =
+    option_map (opens r.code r.first r.second) (part_of carried r.from r.count)
 call_of_kind carried readings r Start = Some (starts r.place)
 call_of_kind carried readings r PostReading =
     Some (posts r.month r.place (OfReading (record { kw = r.first; kva = r.second })))
-call_of_kind carried readings r PostDay = option_map (posts_day r.month r.place r.code) (part_of readings r.from r.count)
+call_of_kind carried readings r PostDay =
+    option_map (posts_day r.month r.place r.code) (part_of readings r.from r.count)
 call_of_kind carried readings r PostPrice = Some (posts r.month r.place (OfPrice r.first))
 call_of_kind carried readings r PostSchedule = Some (posts r.month r.place (OfScheduled r.first))
 call_of_kind carried readings r Bill = Some (bills r.month)

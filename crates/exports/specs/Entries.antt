@@ -10,4 +10,9 @@ letter_number Bill = 0
 letter_number TrueUp = 1
 
 abbrev pub entry_record : Entry → EntryRecord
-entry_record entry = record { month = entry.month; letter = letter_number entry.kind; line = entry.line; cents = entry.cents }
+entry_record entry = record {
+  month = entry.month;
+  letter = letter_number entry.kind;
+  line = entry.line;
+  cents = entry.cents;
+}

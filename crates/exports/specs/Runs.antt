@@ -52,22 +52,39 @@ new_book months entries = blank (min MOST_MONTHS months) (length entries)
 abbrev pub records_with : List EntryRecord → List EntryRecord → List EntryRecord
 records_with new records = take (length records) new ++ drop (length new) records
 
--- the calls were made under the sheets described: what each answered, and the ledger that they left
-pub record MakesCalls (rate : RateRecord) (riders : List RiderRecord) (months : ℕ) (carried : List ℕ) (readings : List Reading) (calls : List CallRecord) (entries : List EntryRecord) (answers' : List AnswerRecord) (entries' : List EntryRecord) (count : ℕ) : Type 0 where
+-- what calls made on a book answer, the ledger that they leave, and how many entries it has
+pub record IsRun (meaning : Meaning) (calls : List (Option Call)) (v : View) (entries : List EntryRecord)
+    (answers' : List AnswerRecord) (entries' : List EntryRecord) (count : ℕ) : Type 0 where
+  pub answers : answers' ≡ answers_to meaning calls v
+  pub ledger : entries' ≡ records_with (map entry_record (view_after_calls meaning calls v).ledger) entries
+  pub count_is : count ≡ length (view_after_calls meaning calls v).ledger
+
+-- the calls described are made on a new book, under the sheets described
+pub record MakesCalls (rate : RateRecord) (riders : List RiderRecord) (months : ℕ) (carried : List ℕ)
+    (readings : List Reading) (calls : List CallRecord) (entries : List EntryRecord)
+    (answers' : List AnswerRecord) (entries' : List EntryRecord) (count : ℕ) : Type 0 where
   pub sheet : RateSheet
   pub sheets : List RiderSheet
   pub described : DescribesSheets rate riders sheet sheets
-  pub answers : answers' ≡ answers_to (sheets_meaning sheet sheets) (map (described_call carried readings) calls) (new_book months entries)
-  pub ledger : entries' ≡ records_with (map entry_record (view_after_calls (sheets_meaning sheet sheets) (map (described_call carried readings) calls) (new_book months entries)).ledger) entries
-  pub count_is : count ≡ length (view_after_calls (sheets_meaning sheet sheets) (map (described_call carried readings) calls) (new_book months entries)).ledger
+  pub run : IsRun (sheets_meaning sheet sheets) (map (described_call carried readings) calls)
+      (new_book months entries) entries answers' entries' count
 
 -- the first that holds: there is not an answer for each call, there is no such pile, or no memory for the book
-pub data FailsToRun (rate : RateRecord) (riders : List RiderRecord) (calls : List CallRecord) (answers : List AnswerRecord) : Failure → Type 0 where
-  too_few_answers : length answers ≢ length calls → FailsToRun rate riders calls answers Damaged
-  no_pile : {failure : Failure} → length answers ≡ length calls → FailsToPile rate riders failure → FailsToRun rate riders calls answers failure
-  no_memory : (sheet : RateSheet) (sheets : List RiderSheet) → length answers ≡ length calls → DescribesSheets rate riders sheet sheets → FailsToRun rate riders calls answers NoMemory
+pub data FailsToRun (rate : RateRecord) (riders : List RiderRecord) (calls : List CallRecord)
+    (answers : List AnswerRecord) : Failure → Type 0 where
+  no_answer_for_each : length answers ≢ length calls → FailsToRun rate riders calls answers Damaged
+  no_pile : {failure : Failure} → length answers ≡ length calls → FailsToPile rate riders failure
+      → FailsToRun rate riders calls answers failure
+  no_memory : (sheet : RateSheet) (sheets : List RiderSheet) → length answers ≡ length calls
+      → DescribesSheets rate riders sheet sheets
+      → FailsToRun rate riders calls answers NoMemory
 
 -- what the call answers, with answers and entries before and after it
-pub data AnswersRun (rate : RateRecord) (riders : List RiderRecord) (months : ℕ) (carried : List ℕ) (readings : List Reading) (calls : List CallRecord) (answers : List AnswerRecord) (entries : List EntryRecord) : AnswerRecord → List AnswerRecord → List EntryRecord → Type 0 where
-  runs : {count : ℕ} {answers' : List AnswerRecord} {entries' : List EntryRecord} → MakesCalls rate riders months carried readings calls entries answers' entries' count → AnswersRun rate riders months carried readings calls answers entries (record_of (Written count)) answers' entries'
-  fails : {failure : Failure} → FailsToRun rate riders calls answers failure → AnswersRun rate riders months carried readings calls answers entries (failure_record failure) answers entries
+pub data AnswersRun (rate : RateRecord) (riders : List RiderRecord) (months : ℕ) (carried : List ℕ)
+    (readings : List Reading) (calls : List CallRecord) (answers : List AnswerRecord) (entries : List EntryRecord)
+    : AnswerRecord → List AnswerRecord → List EntryRecord → Type 0 where
+  runs : {count : ℕ} {answers' : List AnswerRecord} {entries' : List EntryRecord}
+      → MakesCalls rate riders months carried readings calls entries answers' entries' count
+      → AnswersRun rate riders months carried readings calls answers entries (record_of (Written count)) answers' entries'
+  fails : {failure : Failure} → FailsToRun rate riders calls answers failure
+      → AnswersRun rate riders months carried readings calls answers entries (failure_record failure) answers entries

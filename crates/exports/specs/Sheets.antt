@@ -25,7 +25,9 @@ rider_kinds = Energy ∷ Percent ∷ Credit ∷ []
 abbrev pub described_draft : {K D : Type 0} → List K → (K → D) → (D → FigureList) → (K → List ℤ → Option D)
     → ℕ → List ℤ → Option D
 described_draft kinds published figures from_figures number values =
-    option_and_then (λ kind. from_figures kind (take (length (figures (published kind))) values)) (slice_get kinds number)
+    option_and_then
+    (λ kind. from_figures kind (take (length (figures (published kind))) values))
+    (slice_get kinds number)
 
 abbrev pub described_rate : RateRecord → Option RateDraft
 described_rate r = described_draft rate_kinds rate_published rate_figures rate_from_figures r.rate r.figures

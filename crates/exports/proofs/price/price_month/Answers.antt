@@ -16,7 +16,11 @@ returns-in_err-facts c = search (rules, facts_outside)
 pub returns-in_err-hours : goal.returns-in_err-hours
 returns-in_err-hours c =
     let facts_within : FactsWithin c.args.facts.now = search rules in
-    let outside : ¬ RowsWithin c.args.hours.now → FailsToPrice c.args.rate.now c.args.riders.now c.args.facts.now c.args.hours.now (Refused (OutsideLimit 0 0)) = hours_outside c.in_ok-pile.pile.schedule c.in_ok-pile.pile.riders.items c.in_ok-pile.ensures facts_within in
+    let pile = c.in_ok-pile.pile in
+    let hours = c.args.hours.now in
+    let outside : ¬ RowsWithin hours
+    → FailsToPrice c.args.rate.now c.args.riders.now c.args.facts.now hours (Refused (OutsideLimit 0 0))
+    = hours_outside pile.schedule pile.riders.items c.in_ok-pile.ensures facts_within in
     search (rules, outside)
 
 pub returns-in_err-price : goal.returns-in_err-price
@@ -25,7 +29,8 @@ returns-in_err-price c = search (rules, refused)
 pub returns : goal.returns
 returns c =
     let pile = c.in_ok-pile.pile in
-    let priced : pricing (sheets_meaning pile.schedule pile.riders.items) c.args.facts.now c.args.hours.now ≡ Ok c.in_ok-price.field-0.cents = search rules in
+    let meaning = sheets_meaning pile.schedule pile.riders.items in
+    let priced : pricing meaning c.args.facts.now c.args.hours.now ≡ Ok c.in_ok-price.field-0.cents = search rules in
     record {
       sheet = pile.schedule;
       sheets = pile.riders.items;

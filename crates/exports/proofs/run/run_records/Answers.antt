@@ -18,12 +18,18 @@ loop-i-preserved g c =
     let meaning = g.S.Schedule.meaning c.args.schedule.now in
     let v = view c.args.book.now in
     let calls = map read (take i records) in
-    let room : i < length c.loop-i.answers = omega (arith, c.requires, c.loop-i.auto.answers, c.loop-i-test.true) in
+    let room : i < length c.loop-i.answers =
+    omega (arith, c.requires, c.loop-i.auto.answers, c.loop-i-test.true) in
     let call = read (get_or records i blank) in
     let w = view c.loop-i.book in
     let answers : c.run_record.result ≡ answer_to meaning call w = search rules in
     let leaves : view c.run_record.new.book ≡ view_after_call meaning call w = search rules in
-    rw (take_more_set c.loop-i.answers i c.run_record.result room, take_more records i blank c.loop-i-test.true, map-append read (take i records) (get_or records i blank ∷ [])) (
-      answers_with_last meaning call calls v w (take i c.loop-i.answers) c.run_record.result c.loop-i.invariant.0 c.loop-i.invariant.1 answers,
+    rw (
+      take_more_set c.loop-i.answers i c.run_record.result room,
+      take_more records i blank c.loop-i-test.true,
+      map-append read (take i records) (get_or records i blank ∷ []),
+    ) (
+      answers_with_last meaning call calls v w (take i c.loop-i.answers) c.run_record.result
+          c.loop-i.invariant.0 c.loop-i.invariant.1 answers,
       view_after_last meaning call calls v w _ c.loop-i.invariant.1 leaves,
     )

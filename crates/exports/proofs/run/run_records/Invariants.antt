@@ -6,5 +6,7 @@ use Rattle.exports.proofs.run.run_records.Given as goal
 
 abbrev pub invariant-loop-i : goal.invariant-loop-i
 invariant-loop-i g l =
-    (take l.i l.answers ≡ answers_to (g.S.Schedule.meaning l.schedule) (map (described_call l.lists.carried.now l.lists.readings.now) (take l.i l.calls)) (view l.initial.book))
-    × (view l.book ≡ view_after_calls (g.S.Schedule.meaning l.schedule) (map (described_call l.lists.carried.now l.lists.readings.now) (take l.i l.calls)) (view l.initial.book))
+    let meaning = g.S.Schedule.meaning l.schedule in
+    let calls = map (described_call l.lists.carried.now l.lists.readings.now) (take l.i l.calls) in
+    (take l.i l.answers ≡ answers_to meaning calls (view l.initial.book))
+    × (view l.book ≡ view_after_calls meaning calls (view l.initial.book))
