@@ -87,11 +87,11 @@ fn months() -> usize {
         // what the cents held before has to stay where the month is refused
         let mut library = [n as i64; LINES];
         let mut plain = library;
-        let told = Library::price(&month, &mut library);
+        let given = Library::price(&month, &mut library);
         let expected = Plain::price(&month, &mut plain);
-        tally.count(&told);
+        tally.count(&given);
         let what = || format!("month {n}, {:?} {:?}", month.sheets.rate, month.facts);
-        differences.check(what, (told, library), (expected, plain));
+        differences.check(what, (given, library), (expected, plain));
     }
     println!(
         "months, priced under any rate and riders (seed {SEED:#x}): compared {MONTHS}, differ {}",
@@ -114,20 +114,20 @@ impl Compared {
         let plain = Plain::answers(run);
         let whole = || format!("run {n}, as a whole");
         self.differences.check(whole, library.whole, plain.whole);
-        for (i, (told, expected)) in library.answers.iter().zip(&plain.answers).enumerate() {
+        for (i, (given, expected)) in library.answers.iter().zip(&plain.answers).enumerate() {
             let what = || format!("run {n}, call {i}, {:?}", run.calls[i]);
-            self.differences.check(what, told, expected);
+            self.differences.check(what, given, expected);
             // a run whose sheets are refused performs no call
-            if *told != AnswerRecord::default() {
+            if *given != AnswerRecord::default() {
                 self.calls += 1;
-                self.tally.count(told);
+                self.tally.count(given);
             }
         }
         let entries = library.entries.iter().zip(&plain.entries);
-        for (i, (told, expected)) in entries.enumerate() {
+        for (i, (given, expected)) in entries.enumerate() {
             let what = || format!("run {n}, entry {i}");
-            self.differences.check(what, told, expected);
-            self.entries += usize::from(*told != EntryRecord::default());
+            self.differences.check(what, given, expected);
+            self.entries += usize::from(*given != EntryRecord::default());
         }
     }
 }

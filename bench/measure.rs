@@ -133,8 +133,8 @@ fn month(under: Under) -> Month {
             contract: 20_000,
             substation: 30_000,
             peak: 12_500,
-            apparent: 15_000,
-            earlier: 14_000,
+            peak_kva: 15_000,
+            ratchet_peak: 14_000,
         },
         hours: hours.collect(),
     }
@@ -159,7 +159,7 @@ fn day(random: &mut Random, month: u32, day: u32) -> CallRecord {
 }
 
 /// An opened book of so many months with nothing posted.
-fn begun(months: u32) -> Run {
+fn new_book(months: u32) -> Run {
     let mut random = Random::new(11);
     let readings = (0..16 * DAY_QUARTERS).map(|_| {
         let kw = 5_000 + random.below(10_000) as u32;
@@ -190,7 +190,7 @@ fn begun(months: u32) -> Run {
 
 /// Every month posted, and the first so many billed.
 fn billed(bills: u32) -> Run {
-    let mut run = begun(MONTHS);
+    let mut run = new_book(MONTHS);
     let mut random = Random::new(13);
     for month in 1..=MONTHS {
         for d in 0..DAYS {
@@ -211,7 +211,7 @@ fn billed(bills: u32) -> Run {
 fn run_of(work: Work) -> Run {
     match work {
         Work::PostDay { times } => {
-            let mut run = begun(1);
+            let mut run = new_book(1);
             let mut random = Random::new(17);
             for n in 0..times {
                 run.calls.push(day(&mut random, 1, n as u32 % DAYS));
@@ -224,7 +224,7 @@ fn run_of(work: Work) -> Run {
             run.calls.extend((0..times).map(|_| call(DUE, MONTHS, 0)));
             run
         }
-        Work::Price { .. } => begun(1),
+        Work::Price { .. } => new_book(1),
     }
 }
 

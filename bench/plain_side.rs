@@ -1,7 +1,7 @@
 //! The plain side: the same records, read into the types of `plain`.
 
 use crate::plain::Refusal;
-use crate::plain::book::{Book, Letter, Reading};
+use crate::plain::book::{Book, EntryKind, PointCode, Reading};
 use crate::plain::pricing::{LINES, Pile, price};
 use crate::plain::rates::Rate;
 use crate::plain::riders::Rider;
@@ -83,7 +83,7 @@ fn rider(record: &RiderRecord) -> Result<Rider, Damaged> {
     })
 }
 
-/// Sealed sheet by sheet, the rate first, so that the first that fails is the one told of.
+/// Sealed sheet by sheet, the rate first, so that the first that fails is the one answered.
 fn pile(sheets: &Sheets) -> Result<Pile, Failure> {
     let rate = rate(&sheets.rate)?;
     rate.check()?;
@@ -111,7 +111,7 @@ fn perform(
     Ok(match call.kind {
         0 => {
             let carried = part(&run.carried, call.from, call.count)?;
-            done(book.open(call.code, call.first, call.second, carried)?)
+            done(book.open(PointCode(call.code), call.first, call.second, carried)?)
         }
         1 => counting(STARTED, book.start(call.place)?.into()),
         2 => {
@@ -123,7 +123,7 @@ fn perform(
         }
         3 => {
             let readings = part(&run.readings, call.from, call.count)?;
-            done(book.post_day(call.month, call.place, call.code, readings)?)
+            done(book.post_day(call.month, call.place, PointCode(call.code), readings)?)
         }
         4 => done(book.post_price(call.month, call.place, call.first)?),
         5 => done(book.post_schedule(call.month, call.place, call.first)?),
@@ -167,12 +167,12 @@ impl Side for Plain {
         for (answer, call) in answers.iter_mut().zip(&run.calls) {
             *answer = perform(&mut book, &pile, run, call).unwrap_or_else(AnswerRecord::from);
         }
-        for (told, entry) in entries.iter_mut().zip(book.ledger()) {
-            *told = EntryRecord {
+        for (record, entry) in entries.iter_mut().zip(book.ledger()) {
+            *record = EntryRecord {
                 month: entry.month.into(),
-                letter: match entry.letter {
-                    Letter::Bill => 0,
-                    Letter::TrueUp => 1,
+                letter: match entry.kind {
+                    EntryKind::Bill => 0,
+                    EntryKind::TrueUp => 1,
                 },
                 line: entry.line.into(),
                 cents: entry.cents,

@@ -177,20 +177,20 @@ impl Random {
             1 if damaged => substation.saturating_add(1),
             _ => self.up_to(substation).max(u32::from(!damaged)),
         };
-        let apparent = self.quantity(1_000_000, damaged);
+        let peak_kva = self.quantity(1_000_000, damaged);
         let peak = match self.below(4) {
-            0 => apparent,
+            0 => peak_kva,
             // about where the power factor begins to be charged
-            1 => (u64::from(apparent) * 9 / 10) as u32 + self.up_to(1).min(apparent / 10),
-            2 if damaged => apparent.saturating_add(1),
-            _ => self.up_to(apparent),
+            1 => (u64::from(peak_kva) * 9 / 10) as u32 + self.up_to(1).min(peak_kva / 10),
+            2 if damaged => peak_kva.saturating_add(1),
+            _ => self.up_to(peak_kva),
         };
         Facts {
             contract,
             substation,
             peak,
-            apparent,
-            earlier: self.quantity(1_000_000, damaged),
+            peak_kva,
+            ratchet_peak: self.quantity(1_000_000, damaged),
         }
     }
 

@@ -4,18 +4,23 @@
 use crate::plain::book::Reading;
 use crate::plain::pricing::{Facts, Hour, LINES};
 
+/// The most figures that the sheet of a rate has, and that of a rider.
+pub const RATE_FIGURES: usize = 8;
+
+pub const RIDER_FIGURES: usize = 6;
+
 #[repr(C)]
 #[derive(Clone, Copy, Debug)]
 pub struct RateRecord {
     pub rate: u32,
-    pub figures: [i64; 8],
+    pub figures: [i64; RATE_FIGURES],
 }
 
 #[repr(C)]
 #[derive(Clone, Copy, Debug)]
 pub struct RiderRecord {
     pub rider: u32,
-    pub figures: [i64; 6],
+    pub figures: [i64; RIDER_FIGURES],
 }
 
 #[repr(C)]

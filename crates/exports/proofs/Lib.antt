@@ -1,3 +1,2 @@
-pub mod Failing
-pub mod Fronts
-pub mod Ran
+pub mod OneCallMore
+pub mod RunParts

@@ -1,9 +1,7 @@
 pub mod Answers
 pub mod Calls
-pub mod Chosen
-pub mod Codes
-pub mod Ledgers
-pub mod Performed
-pub mod Priced
+pub mod Entries
+pub mod Piles
+pub mod Prices
 pub mod Runs
 pub mod Sheets

@@ -1,30 +1,82 @@
 // A call of a book as a record that C can fill.
 ghost use Rattle.std.specs.Prelude.{◌≡◌, None, Some, MatchResult};
-ghost use Rattle.audit.specs.Requests.{call_of};
-ghost use Rattle.exports.specs.Calls.{call_in, part_of};
+ghost use Rattle.std.specs.List.{slice_get};
+ghost use Rattle.book.specs.Requests.{call_of};
+ghost use Rattle.exports.specs.Calls.{call_kinds, described_call, part_of};
 
-use crate::kind::{Damaged, Kind};
-use audit::Request;
-use store::Reading;
+use crate::failure::Damaged;
+use book::Request;
+use store::{Post, Reading};
 
-// `kind` says which call. The others are what it takes: the month; the quarter, day, hour or line
-// (`place`), or the days of a new month; its numbers (`first`, `second`); where in the lists lent
-// beside the records its carried peaks or its readings begin, and how many they are; its code.
+/// A call of a book. What its kind does not take is not read.
 #[repr(C)]
-#[derive(Clone, Copy)]
+#[derive(Clone, Copy, PartialEq, Eq, Debug)]
 pub struct CallRecord {
+    /// Which call, in the order of [`book::Request`], a post by what is posted: 0 open, 1 start,
+    /// 2 post a reading, 3 a day, 4 a price, 5 a scheduled amount, 6 bill, 7 true up, 8 finalise,
+    /// 9 due, 10 total. A record of another kind is damaged.
     pub kind: u32,
+    /// The month, from 1.
     pub month: u32,
+    /// The quarter, day or hour, from 0; the line of a total, from 1; the days of a new month.
     pub place: u32,
+    /// Contract kW, a reading's kW, an hour's price in cents per MWh, or its scheduled kW.
     pub first: u32,
+    /// Substation total kW, or a reading's kVA.
     pub second: u32,
+    /// Where its carried peaks or readings begin in the list lent beside the records, from 0. Where
+    /// they do not lie in that list, the record is damaged.
     pub from: u32,
+    /// How many they are.
     pub count: u32,
+    /// The code of the point.
     pub code: [u8; 8],
 }
 
+#[derive(Clone, Copy, PartialEq, Eq, Debug)]
+enum CallKind {
+    Open,
+    Start,
+    PostReading,
+    PostDay,
+    PostPrice,
+    PostSchedule,
+    Bill,
+    TrueUp,
+    Finalise,
+    Due,
+    Total,
+}
+
+// In the order of their numbers, from 0.
+const CALL_KINDS: [CallKind; 11] = [
+    CallKind::Open,
+    CallKind::Start,
+    CallKind::PostReading,
+    CallKind::PostDay,
+    CallKind::PostPrice,
+    CallKind::PostSchedule,
+    CallKind::Bill,
+    CallKind::TrueUp,
+    CallKind::Finalise,
+    CallKind::Due,
+    CallKind::Total,
+];
+
+impl TryFrom<u32> for CallKind {
+    type Error = Damaged;
+
+    ghost try_from_gives = { λ number result. MatchResult result
+        (λ kind. slice_get call_kinds number ≡ Some kind)
+        (λ _. slice_get call_kinds number ≡ None) };
+
+    fn try_from(number: u32) -> Result<CallKind, Damaged> {
+        CALL_KINDS.get(number as usize).copied().ok_or(Damaged)
+    }
+}
+
 // The lists that the records of a run refer to.
-#[derive(Clone, Copy)]
+#[derive(Clone, Copy, Debug)]
 pub(crate) struct Lists<'d> {
     pub(crate) carried: &'d [u32],
     pub(crate) readings: &'d [Reading],
@@ -32,7 +84,9 @@ pub(crate) struct Lists<'d> {
 
 // So many items of a list from a place on.
 fn part<T>(items: &[T], from: u32, count: u32) -> Result<&[T], Damaged>
-    ensures { MatchResult result (λ part. part_of items.now from count ≡ Some part.now) (λ _. part_of items.now from count ≡ None) }
+    ensures { MatchResult result
+        (λ part. part_of items.now from count ≡ Some part.now)
+        (λ _. part_of items.now from count ≡ None) }
 {
     let from = from as usize;
     let to = from + count as usize;
@@ -44,7 +98,11 @@ fn part<T>(items: &[T], from: u32, count: u32) -> Result<&[T], Damaged>
 
 impl CallRecord {
     pub(crate) fn request<'d>(&self, lists: &Lists<'d>) -> Result<Request<'d>, Damaged>
-        ensures { MatchResult result (λ request. call_in lists.now.carried.now lists.now.readings.now self.now ≡ Some (call_of request)) (λ _. call_in lists.now.carried.now lists.now.readings.now self.now ≡ None) }
+        ensures { MatchResult result
+            (λ request.
+            described_call lists.now.carried.now lists.now.readings.now self.now
+            ≡ Some (call_of request))
+            (λ _. described_call lists.now.carried.now lists.now.readings.now self.now ≡ None) }
     {
         let CallRecord {
             kind,
@@ -56,43 +114,43 @@ impl CallRecord {
             count,
             code,
         } = *self;
-        Ok(match Kind::try_from(kind)? {
-            Kind::Open => Request::Open {
-                code,
+        Ok(match CallKind::try_from(kind)? {
+            CallKind::Open => Request::Open {
+                code: code.into(),
                 contract: first,
                 substation: second,
                 carried: part(lists.carried, from, count)?,
             },
-            Kind::Start => Request::Start { days: place },
-            Kind::PostReading => Request::PostReading {
+            CallKind::Start => Request::Start { days: place },
+            CallKind::PostReading => Request::Post {
                 month,
-                quarter: place,
-                reading: Reading {
+                place,
+                post: Post::Reading(Reading {
                     kw: first,
                     kva: second,
-                },
+                }),
             },
-            Kind::PostDay => Request::PostDay {
+            CallKind::PostDay => Request::PostDay {
                 month,
                 day: place,
-                code,
+                code: code.into(),
                 readings: part(lists.readings, from, count)?,
             },
-            Kind::PostPrice => Request::PostPrice {
+            CallKind::PostPrice => Request::Post {
                 month,
-                hour: place,
-                price: first,
+                place,
+                post: Post::Price(first),
             },
-            Kind::PostSchedule => Request::PostSchedule {
+            CallKind::PostSchedule => Request::Post {
                 month,
-                hour: place,
-                kw: first,
+                place,
+                post: Post::Scheduled(first),
             },
-            Kind::Bill => Request::Bill { month },
-            Kind::TrueUp => Request::TrueUp { month },
-            Kind::Finalise => Request::Finalise { month },
-            Kind::Due => Request::Due { month },
-            Kind::Total => Request::Total { month, line: place },
+            CallKind::Bill => Request::Bill { month },
+            CallKind::TrueUp => Request::TrueUp { month },
+            CallKind::Finalise => Request::Finalise { month },
+            CallKind::Due => Request::Due { month },
+            CallKind::Total => Request::Total { month, line: place },
         })
     }
 }

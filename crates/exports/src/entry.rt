@@ -1,21 +1,25 @@
 // An entry of the ledger as a record that C can read.
 ghost use Rattle.std.specs.Prelude.{◌≡◌, ◌≤◌, ◌++◌, length, map, drop};
-ghost use Rattle.exports.specs.Ledgers.{entry_record};
+ghost use Rattle.exports.specs.Entries.{entry_record};
 
 use ledger::{Entry, EntryKind};
 
-// Month and line from 1; `letter` is 0 for a bill and 1 for a true-up.
+/// An entry of the ledger.
 #[repr(C)]
 #[derive(Clone, Copy, PartialEq, Eq, Debug)]
 pub struct EntryRecord {
+    /// From 1.
     pub month: u32,
+    /// 0 for a bill, 1 for a true-up.
     pub letter: u32,
+    /// The number of the line on the bill, from 1.
     pub line: u32,
+    /// What is added to the line, in cents.
     pub cents: i64,
 }
 
 impl From<&Entry> for EntryRecord {
-    ghost from_gives = { λ entry told. told ≡ entry_record entry.now };
+    ghost from_gives = { λ entry record'. record' ≡ entry_record entry.now };
 
     fn from(entry: &Entry) -> EntryRecord {
         EntryRecord {
@@ -31,7 +35,7 @@ impl From<&Entry> for EntryRecord {
 }
 
 // The entries over the first records.
-pub(crate) fn tell(records: &mut [EntryRecord], entries: &[Entry])
+pub(crate) fn write_entries(records: &mut [EntryRecord], entries: &[Entry])
     requires { length entries.now ≤ length records.old }
     ensures { records.new ≡ map entry_record entries.now ++ drop (length entries.now) records.old }
 {

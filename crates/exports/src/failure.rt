@@ -1,24 +1,31 @@
-// Why a caller in C gets no more than a record.
+// Why a caller in C gets no more than a record of it.
 ghost use Rattle.std.specs.Prelude.{◌≡◌};
-ghost use Rattle.exports.specs.Answers.{failed};
-ghost use Rattle.exports.specs.declared.failure.Failure.TheVariants.{Damaged as IsDamaged, NoMemory as HasNoMemory, Refused as IsRefused};
+ghost use Rattle.exports.specs.Answers.{failure_record};
+ghost use Rattle.exports.specs.declared.failure.Failure.TheVariants as failure;
 
 use crate::answer::AnswerRecord;
-use crate::kind::Damaged;
-use audit::Answer;
+use book::Answer;
 use std::alloc::AllocError;
 use tariff::Refusal;
+use thiserror::Error;
 
-#[derive(Clone, Copy, PartialEq, Eq, Debug)]
+// A description that no call, rate or rider has.
+#[derive(Clone, Copy, PartialEq, Eq, Debug, Error)]
+#[error("the description is of no call, rate or rider")]
+pub(crate) struct Damaged;
+
+#[derive(Clone, Copy, PartialEq, Eq, Debug, Error)]
 pub(crate) enum Failure {
-    // a description that is of nothing
+    #[error("a description is of no call, rate or rider")]
     Damaged,
+    #[error(transparent)]
     Refused(Refusal),
+    #[error("there is no memory for it")]
     NoMemory,
 }
 
 impl From<Damaged> for Failure {
-    ghost from_gives = { λ _ failure. failure ≡ IsDamaged };
+    ghost from_gives = { λ _ made. made ≡ failure.Damaged };
 
     fn from(_: Damaged) -> Failure {
         Failure::Damaged
@@ -26,7 +33,7 @@ impl From<Damaged> for Failure {
 }
 
 impl From<Refusal> for Failure {
-    ghost from_gives = { λ refusal failure. failure ≡ IsRefused refusal };
+    ghost from_gives = { λ refusal made. made ≡ failure.Refused refusal };
 
     fn from(refusal: Refusal) -> Failure {
         Failure::Refused(refusal)
@@ -34,7 +41,7 @@ impl From<Refusal> for Failure {
 }
 
 impl From<AllocError> for Failure {
-    ghost from_gives = { λ _ failure. failure ≡ HasNoMemory };
+    ghost from_gives = { λ _ made. made ≡ failure.NoMemory };
 
     fn from(_: AllocError) -> Failure {
         Failure::NoMemory
@@ -42,7 +49,7 @@ impl From<AllocError> for Failure {
 }
 
 impl From<Failure> for AnswerRecord {
-    ghost from_gives = { λ failure told. told ≡ failed failure };
+    ghost from_gives = { λ failure record'. record' ≡ failure_record failure };
 
     fn from(failure: Failure) -> AnswerRecord {
         match failure {

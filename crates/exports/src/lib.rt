@@ -1,22 +1,20 @@
-// The library for a caller in C: the pricing of a month, and a run of calls on a book.
+//! The library for a caller in C: the pricing of a month, and a run of calls on a new book. It is
+//! called with records that the caller fills, and answers by records.
 
 #![tactic(auto)]
 
 mod answer;
 mod call;
-mod chosen;
 mod entry;
 mod failure;
-mod kind;
-mod memory;
-mod performed;
-mod priced;
+mod pile;
+mod price;
 mod run;
 mod sheets;
 
 pub use answer::AnswerRecord;
 pub use call::CallRecord;
 pub use entry::EntryRecord;
-pub use performed::mohzetna_run;
-pub use priced::{CentsRecord, mohzetna_price};
+pub use price::{CentsRecord, mohzetna_price};
+pub use run::mohzetna_run;
 pub use sheets::{RateRecord, RiderRecord};

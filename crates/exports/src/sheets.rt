@@ -1,152 +1,130 @@
 // A rate and a rider as records that C can fill.
-ghost use Rattle.std.specs.Prelude.{◌≡◌, None, Some, MatchResult};
+ghost use Rattle.std.specs.Prelude.{◌≡◌, ◌≤◌, ℕ, List, None, Some, length, MatchResult};
 ghost use Rattle.std.specs.List.{slice_get};
-ghost use Rattle.exports.specs.Codes.{rates, riders};
-ghost use Rattle.exports.specs.Sheets.{dts_in, rate_in, rider_in};
+ghost use Rattle.std.proofs.Common.{rules};
+ghost use Rattle.piles.specs.Rates.{rate_draft};
+ghost use Rattle.piles.specs.Riders.{rider_draft};
+ghost use Rattle.exports.specs.Piles.{RateFails, RiderFails};
+ghost use Rattle.exports.specs.Sheets.{described_draft, described_rate, described_rider, rate_kinds, rider_kinds};
+ghost use Rattle.exports.specs.declared.sheets.TheConstants.{RIDER_FIGURES as rider_figures};
+ghost use Rattle.tariff.specs.declared.figures.TheConstants.{MOST_FIGURES as most_figures};
 
-use crate::kind::Damaged;
-use piles::{RateDraft, RiderDraft};
-use rates::dos::DosDraft;
-use rates::dts::DtsDraft;
-use rates::sts::StsDraft;
-use rates::xts::XtsDraft;
-use riders::credit::CreditDraft;
-use riders::energy::EnergyDraft;
-use riders::percent::PercentDraft;
+use crate::failure::{Damaged, Failure};
+use piles::{RateKind, RateSheet, RiderKind, RiderSheet, SheetKind};
+use tariff::MOST_FIGURES;
 
-// `rate` says which rate. Its figures come in the order of its sheet; what lies past them is not read.
+/// The most figures that the sheet of a rider has.
+pub const RIDER_FIGURES: usize = 6;
+
+/// A rate and its sheet.
 #[repr(C)]
-#[derive(Clone, Copy)]
+#[derive(Clone, Copy, PartialEq, Eq, Debug)]
 pub struct RateRecord {
+    /// Which rate: 0 DTS, 1 its grandfathered form, 2 XTS, 3 DOS, 4 STS. A record of another number
+    /// is damaged.
     pub rate: u32,
-    pub figures: [i64; 8],
+    /// The figures in the order of the sheet, each in the unit of its draft; what lies past them is
+    /// not read. There are as many places as any sheet has figures: [`tariff::MOST_FIGURES`].
+    pub figures: [i64; MOST_FIGURES],
 }
 
-// `rider` says which rider. The first of its figures is its number.
+/// A rider and its sheet.
 #[repr(C)]
-#[derive(Clone, Copy)]
+#[derive(Clone, Copy, PartialEq, Eq, Debug)]
 pub struct RiderRecord {
+    /// Which rider: 0 so much for each MWh, 1 so much of all the lines beneath, 2 the Primary Service
+    /// Credit. A record of another number is damaged.
     pub rider: u32,
-    pub figures: [i64; 6],
+    /// The figures in the order of the sheet, the rider's number first; what lies past them is not
+    /// read.
+    pub figures: [i64; RIDER_FIGURES],
 }
 
-// Numbered from 0 in this order.
-#[derive(Clone, Copy, PartialEq, Eq, Debug)]
-pub(crate) enum RateCode {
-    Dts,
-    Gts,
-    Xts,
-    Dos,
-    Sts,
-}
-
-// Numbered from 0 in this order.
-#[derive(Clone, Copy, PartialEq, Eq, Debug)]
-pub(crate) enum RiderCode {
-    Energy,
-    Percent,
-    Credit,
-}
-
-const RATES: [RateCode; 5] = [
-    RateCode::Dts,
-    RateCode::Gts,
-    RateCode::Xts,
-    RateCode::Dos,
-    RateCode::Sts,
+// In the order of their numbers, from 0.
+const RATE_KINDS: [RateKind; 5] = [
+    RateKind::Dts,
+    RateKind::Gts,
+    RateKind::Xts,
+    RateKind::Dos,
+    RateKind::Sts,
 ];
 
-const RIDERS: [RiderCode; 3] = [RiderCode::Energy, RiderCode::Percent, RiderCode::Credit];
+const RIDER_KINDS: [RiderKind; 3] = [RiderKind::Energy, RiderKind::Percent, RiderKind::Credit];
 
-impl TryFrom<u32> for RateCode {
-    type Error = Damaged;
+// A kind of sheet by its number.
+trait NumberedKind: SheetKind {
+    // in the order of their numbers, from 0
+    ghost kinds: { List Self };
 
-    ghost try_from_gives = { λ number result. MatchResult result (λ code. slice_get rates number ≡ Some code) (λ _. slice_get rates number ≡ None) };
+    // how many figures a record of one has room for
+    ghost room: { ℕ };
 
-    fn try_from(number: u32) -> Result<RateCode, Damaged> {
-        RATES.get(number as usize).copied().ok_or(Damaged)
+    fn numbered(number: u32) -> Result<Self, Damaged>
+        ensures { MatchResult result
+            (λ kind. slice_get kinds number ≡ Some kind)
+            (λ _. slice_get kinds number ≡ None) };
+
+    // a record has room for all the figures of a sheet
+    ghost fits: { (kind : Self) → length (Self.figures (Self.published kind)) ≤ room };
+}
+
+impl NumberedKind for RateKind {
+    ghost kinds = { rate_kinds };
+
+    ghost room = { most_figures };
+
+    ghost fits = { Prim.search rules };
+
+    fn numbered(number: u32) -> Result<RateKind, Damaged> {
+        RATE_KINDS.get(number as usize).copied().ok_or(Damaged)
     }
 }
 
-impl TryFrom<u32> for RiderCode {
-    type Error = Damaged;
+impl NumberedKind for RiderKind {
+    ghost kinds = { rider_kinds };
 
-    ghost try_from_gives = { λ number result. MatchResult result (λ code. slice_get riders number ≡ Some code) (λ _. slice_get riders number ≡ None) };
+    ghost room = { rider_figures };
 
-    fn try_from(number: u32) -> Result<RiderCode, Damaged> {
-        RIDERS.get(number as usize).copied().ok_or(Damaged)
+    ghost fits = { Prim.search rules };
+
+    fn numbered(number: u32) -> Result<RiderKind, Damaged> {
+        RIDER_KINDS.get(number as usize).copied().ok_or(Damaged)
     }
+}
+
+// The draft of the kind of this number, of as many of these figures as its sheet has.
+fn draft<K: NumberedKind>(number: u32, figures: &[i64]) -> Result<K::Draft, Damaged>
+    requires { length figures.now ≡ K.room }
+    ensures { MatchResult result
+        (λ draft.
+        described_draft K.kinds K.published K.figures K.from_figures number figures.now
+        ≡ Some draft)
+        (λ _. slice_get K.kinds number ≡ None) }
+{
+    let kind = K::numbered(number)?;
+    let published = K::figures(&kind.published());
+    let count = published.as_slice().len();
+    Ok(kind.from_figures(&figures[..count]).unwrap())
 }
 
 impl RateRecord {
-    // The sheet that DTS and GTS have in common.
-    fn dts(&self) -> DtsDraft
-        ensures { result ≡ dts_in self.now }
+    // The sheet sealed from the rate's draft.
+    pub(crate) fn sheet(&self) -> Result<RateSheet, Failure>
+        ensures { MatchResult result
+            (λ sheet. described_rate self.now ≡ Some (rate_draft sheet))
+            (RateFails self.now) }
     {
-        let figures = self.figures;
-        DtsDraft {
-            system_demand: figures[0],
-            system_energy: figures[1],
-            delivery_demand: figures[2],
-            delivery_fixed: figures[3],
-            operating_reserve: figures[4],
-            voltage_control: figures[5],
-            other_support: figures[6],
-            power_factor: figures[7],
-        }
-    }
-
-    pub(crate) fn draft(&self) -> Result<RateDraft, Damaged>
-        ensures { MatchResult result (λ draft. rate_in self.now ≡ Some draft) (λ _. rate_in self.now ≡ None) }
-    {
-        let figures = self.figures;
-        Ok(match RateCode::try_from(self.rate)? {
-            RateCode::Dts => RateDraft::Dts(self.dts()),
-            RateCode::Gts => RateDraft::Gts(self.dts()),
-            RateCode::Xts => RateDraft::Xts(XtsDraft {
-                interconnection: figures[0],
-                operating_reserve: figures[1],
-                voltage_control: figures[2],
-                other_support: figures[3],
-            }),
-            RateCode::Dos => RateDraft::Dos(DosDraft {
-                energy: figures[0],
-                transaction_fee: figures[1],
-                opportunity_capacity: figures[2],
-                loss_factor: figures[3],
-            }),
-            RateCode::Sts => RateDraft::Sts(StsDraft {
-                loss_factor: figures[0],
-                unit_rating: figures[1],
-                unit_connection: figures[2],
-            }),
-        })
+        Ok(RateSheet::try_from(draft::<RateKind>(self.rate, &self.figures)?)?)
     }
 }
 
 impl RiderRecord {
-    pub(crate) fn draft(&self) -> Result<RiderDraft, Damaged>
-        ensures { MatchResult result (λ draft. rider_in self.now ≡ Some draft) (λ _. rider_in self.now ≡ None) }
+    // The sheet sealed from the rider's draft.
+    pub(crate) fn sheet(&self) -> Result<RiderSheet, Failure>
+        ensures { MatchResult result
+            (λ sheet. described_rider self.now ≡ Some (rider_draft sheet))
+            (RiderFails self.now) }
     {
-        let figures = self.figures;
-        let number = figures[0];
-        Ok(match RiderCode::try_from(self.rider)? {
-            RiderCode::Energy => RiderDraft::Energy(EnergyDraft {
-                number,
-                rate: figures[1],
-            }),
-            RiderCode::Percent => RiderDraft::Percent(PercentDraft {
-                number,
-                factor: figures[1],
-            }),
-            RiderCode::Credit => RiderDraft::Credit(CreditDraft {
-                number,
-                first: figures[1],
-                second: figures[2],
-                third: figures[3],
-                last: figures[4],
-                fixed: figures[5],
-            }),
-        })
+        Ok(RiderSheet::try_from(draft::<RiderKind>(self.rider, &self.figures)?)?)
     }
 }
