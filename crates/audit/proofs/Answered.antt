@@ -1,7 +1,7 @@
 -- What due and total answer of a billed month.
 use Rattle.std.proofs.Common.{◌≡◌, ℕ, ◌+◌, ◌-◌, ◌<◌, true, false, cond, leb, List, length, get_or, ℤ, pos, is_some, Some, None, Ok, Err, Decides, Option, sym, refl, ap, ◌∙◌, inl, inr, arith}
 use Rattle.std.proofs.lemmas.Bool.{and_from, cases_Bool, cond-false, le-leb, not_from_true}
-use Rattle.book.specs.Calls.{asks}
+use Rattle.book.specs.Calls.{asks, whether_due, line_total}
 use Rattle.book.specs.Steps.{answer, reply_unless}
 use Rattle.book.specs.Table.{fault_in, is_fault}
 use Rattle.book.specs.Views.{View, altered_line, amounts_in, month_outcome, sums_of}
@@ -28,20 +28,20 @@ opened meaning v m sound billed =
 
 module _ (meaning : Meaning) (v : View) (m : ℕ) (sound : Sound meaning v) (billed : IsBilled m v) where
   -- a fault is all that still refuses
-  due_answer : answer meaning (asks (due m)) v ≡ reply_unless (cond (is_fault (month_outcome meaning v m)) (Some (LinePastLimit m (fault_in (month_outcome meaning v m)))) None) (is_some (altered_line meaning v m))
+  due_answer : answer meaning (asks (whether_due m)) v ≡ reply_unless (cond (is_fault (month_outcome meaning v m)) (Some (LinePastLimit m (fault_in (month_outcome meaning v m)))) None) (is_some (altered_line meaning v m))
   due_answer =
       ap (λ refusal. reply_unless refusal (is_some (altered_line meaning v m)))
       (cond-false _ _ _ (not_from_true _ (opened meaning v m sound billed))
       ∙ cond-false _ _ _ (not_from_true _ billed.0)
       ∙ cond-false _ _ _ (not_from_true _ billed.1))
 
-  pub due_refuses : (fault : _) → month_outcome meaning v m ≡ Err fault → answer meaning (asks (due m)) v ≡ Err (LinePastLimit m fault)
+  pub due_refuses : (fault : _) → month_outcome meaning v m ≡ Err fault → answer meaning (asks (whether_due m)) v ≡ Err (LinePastLimit m fault)
   due_refuses fault e = due_answer ∙ rw e refl
 
-  pub due_answers : is_fault (month_outcome meaning v m) ≡ false → answer meaning (asks (due m)) v ≡ Ok (is_some (altered_line meaning v m))
+  pub due_answers : is_fault (month_outcome meaning v m) ≡ false → answer meaning (asks (whether_due m)) v ≡ Ok (is_some (altered_line meaning v m))
   due_answers e = due_answer ∙ rw e refl
 
-  pub total_answers : (i : ℕ) → i < line_count → answer meaning (asks (total m (i + 1))) v ≡ Ok (line_sum v.ledger m (i + 1))
+  pub total_answers : (i : ℕ) → i < line_count → answer meaning (asks (line_total m (i + 1))) v ≡ Ok (line_sum v.ledger m (i + 1))
   total_answers i here =
       ap (λ refusal. reply_unless refusal (line_sum v.ledger m (i + 1)))
       (cond-false _ _ _ (not_from_true _ (opened meaning v m sound billed))
@@ -50,11 +50,11 @@ module _ (meaning : Meaning) (v : View) (m : ℕ) (sound : Sound meaning v) (bil
       ∙ cond-false _ _ _ (not_from_true _ billed.1))
 
   -- a month that is answered not to be due can be priced, and its sums are the amounts
-  pub not_due : answer meaning (asks (due m)) v ≡ Ok false → amounts_in (month_outcome meaning v m) ≡ sums_of v m
+  pub not_due : answer meaning (asks (whether_due m)) v ≡ Ok false → amounts_in (month_outcome meaning v m) ≡ sums_of v m
   unfolding altered_line
   not_due e =
       elim (cases_Bool (is_fault (month_outcome meaning v m))) [
-        | inl fault ↦ let refused : answer meaning (asks (due m)) v ≡ Err (LinePastLimit m (fault_in (month_outcome meaning v m))) = due_answer ∙ rw fault refl in cc
+        | inl fault ↦ let refused : answer meaning (asks (whether_due m)) v ≡ Err (LinePastLimit m (fault_in (month_outcome meaning v m))) = due_answer ∙ rw fault refl in cc
         | inr prices ↦
             let is : is_some (altered_line meaning v m) ≡ false = cc (due_answers prices) in
             first_differing_none (amounts_in (month_outcome meaning v m)) (sums_of v m)

@@ -2,7 +2,8 @@
 use Rattle.std.proofs.Common.{◌≡◌, ℕ, suc, ◌+◌, List, [], ◌∷◌, ◌++◌, map, length, take, drop, Option, sym, refl, ap, ◌∙◌, arith}
 use Rattle.std.proofs.lemmas.List.{drop-take}
 use Rattle.book.specs.Views.{View, altered_line, contract_of, facts_of, month_at, month_index, month_outcome, substation_of, sums_of}
-use Rattle.store.specs.Months.{HourOnFile, Month, peak_kva, ratchet_peak, hour_rows, kva_of, kw_of, peak, ratchet, top}
+use Rattle.store.specs.Months.{HourOnFile, Month, peak_kva, ratchet_peak, hour_rows, kva_of, kw_of, peak, top}
+use Rattle.store.specs.declared.carried.TheConstants.{RATCHET}
 use Rattle.store.specs.declared.post.Reading.{Reading}
 use Rattle.store.specs.declared.month.State.TheVariants.{Open}
 use Rattle.tariff.specs.Pricing.{Meaning}
@@ -83,12 +84,12 @@ pub record Spared (v : View) (m : ℕ) (w : View) : Type 0 where
   pub readings : (month_at m v).readings ≡ (month_at m w).readings
   pub hours : (month_at m v).hours ≡ (month_at m w).hours
 
-module _ (v : View) (m : ℕ) (w : View) (counted : length v.before ≡ ratchet) (spared : Spared v m w) where
+module _ (v : View) (m : ℕ) (w : View) (counted : length v.before ≡ RATCHET) (spared : Spared v m w) where
   spared_earlier : (facts_of v m).ratchet_peak ≡ (facts_of w m).ratchet_peak
   unfolding facts_of ratchet_peak
   spared_earlier =
-      let old = window v.before (map peak v.months) ratchet (month_index m) counted in
-      let new = window w.before (map peak w.months) ratchet (month_index m) (ap length (sym spared.before) ∙ counted) in
+      let old = window v.before (map peak v.months) RATCHET (month_index m) counted in
+      let new = window w.before (map peak w.months) RATCHET (month_index m) (ap length (sym spared.before) ∙ counted) in
       cc (spared.before, spared.peaks)
 
   pub spared_priced : (meaning : Meaning) → month_outcome meaning v m ≡ month_outcome meaning w m

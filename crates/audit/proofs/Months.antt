@@ -1,10 +1,12 @@
 -- Months by their number: one altered, one more started, and what a month past the last one is.
-use Rattle.std.proofs.Common.{◌≡◌, ℕ, ◌*◌, ◌<◌, ◌≤◌, true, false, ◌≢◌, List, [], ◌∷◌, ◌++◌, map, length, get_or, take, Some, sym, refl, ap, ◌∙◌, inl, inr, arith}
+use Rattle.std.proofs.Common.{◌≡◌, ℕ, ◌<◌, ◌≤◌, true, false, ◌≢◌, List, [], ◌∷◌, ◌++◌, map, length, get_or, take, Some, sym, refl, ap, ◌∙◌, inl, inr, arith}
 use lib.Seq.{length-sets}
 use Rattle.std.proofs.lemmas.List.{get_or_append_left, get_or_past, get_or_push, get_or-set_other, get_or-set_same, get_or-take, length_push, length-replicate}
 use Rattle.std.proofs.lemmas.Bool.{both_ways, cases_eq, cases_lt}
-use Rattle.book.specs.Calls.{Post, reading, day, price, scheduled}
-use Rattle.book.specs.Steps.{with_post}
+use Rattle.store.specs.Posts.{month_with_day, month_with_post}
+use Rattle.store.specs.declared.post.Post.{Post}
+use Rattle.store.specs.declared.post.Post.TheVariants.{Reading as OfReading, Price, Scheduled}
+use Rattle.store.specs.declared.post.Reading.{Reading}
 use Rattle.book.specs.Views.{View, month_has_reached, month_index}
 use Rattle.std.proofs.lemmas.List.Sums.{prefix_len_passes}
 use Rattle.store.specs.Months.{Month, months_with, first_short, new_month, no_month, quarters_of, has_reached}
@@ -88,25 +90,24 @@ billed_there v m low billed =
       | inr there ↦ there
     ]
 
--- a post keeps a month's state, and how many readings it has
-module _ (post : Post) (month : Month) where
-  pub post_state : (with_post post month).state ≡ month.state
-  post_state =
-      elim post as (λ p. (with_post p month).state ≡ month.state) [
-        | reading quarter posted ↦ refl
-        | day d code readings ↦ refl
-        | price hour cents ↦ refl
-        | scheduled hour kw ↦ refl
-      ]
+-- an alteration that keeps a month's state, and how many readings it has
+pub record Fills (alter : Month → Month) : Type 0 where
+  pub state : (month : Month) → (alter month).state ≡ month.state
+  pub shaped : (month : Month) → Shaped month → Shaped (alter month)
 
-  pub post_shaped : Shaped month → Shaped (with_post post month)
-  post_shaped shaped =
-      elim post as (λ p. Shaped (with_post p month)) [
-        | reading quarter posted ↦ length-sets month.readings quarter (map Some (posted ∷ [])) ∙ shaped
-        | day d code readings ↦ length-sets month.readings (96 * d) (map Some readings) ∙ shaped
-        | price hour cents ↦ shaped
-        | scheduled hour kw ↦ shaped
-      ]
+pub post_fills : (place : ℕ) (post : Post) → Fills (month_with_post place post)
+post_fills place (OfReading posted) = record {
+  state = λ month. refl;
+  shaped = λ month shaped. length-sets month.readings place (map Some (posted ∷ [])) ∙ shaped;
+}
+post_fills place (Price price) = record { state = λ month. refl; shaped = λ month shaped. shaped }
+post_fills place (Scheduled kw) = record { state = λ month. refl; shaped = λ month shaped. shaped }
+
+pub day_fills : (day : ℕ) (readings : List Reading) → Fills (month_with_day day readings)
+day_fills day readings = record {
+  state = λ month. refl;
+  shaped = λ month shaped. length-sets month.readings (quarters_of day) (map Some readings) ∙ shaped;
+}
 
 -- where no earlier month is short of a state, each has reached it
 pub none_short : (state : State) (v : View) (m n : ℕ) → month_index m ≤ first_short state v.months (month_index m) → 1 ≤ n → n < m → month_has_reached state n v ≡ true

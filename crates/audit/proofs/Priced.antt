@@ -3,22 +3,24 @@ use Rattle.std.proofs.Common.{◌≡◌, ℕ, ◌+◌, ◌-◌, ◌<◌, ◌≤�
 use Rattle.std.proofs.lemmas.List.FromFn.{get_or-map-range_with_len, length-map-range_with_len}
 use Rattle.std.proofs.lemmas.Int.{ints}
 use Rattle.std.proofs.lemmas.Bool.{eqb-false, eqb-true}
-use Rattle.book.specs.Calls.{Call, opens, starts, posts, bills, trues_up, finalises, asks}
-use Rattle.book.specs.Steps.{view_after, step, with_post}
+use Rattle.book.specs.Calls.{Call, opens, starts, posts, posts_day, bills, trues_up, finalises, asks}
+use Rattle.book.specs.Steps.{view_after, step, with_month}
+use Rattle.store.specs.Posts.{month_with_day, month_with_post}
 use Rattle.book.specs.Table.{bill_entries, is_fault, refusal_of}
 use Rattle.book.specs.Views.{View, amounts_in, month_has_reached, month_at, month_outcome}
 use Rattle.ledger.specs.Entries.{line_sum}
 use Rattle.ledger.specs.declared.entry.EntryKind.TheVariants.{Bill, TrueUp}
 use Rattle.ledger.proofs.Sums.{entries_for_line, line_sum_append, written_sum}
-use Rattle.store.specs.Months.{has_reached, with_state}
+use Rattle.store.specs.Months.{Month, has_reached, with_state}
 use Rattle.store.specs.declared.month.State.TheVariants.{Billed, Final}
 use Rattle.tariff.specs.Limits.{line_count}
 use Rattle.tariff.specs.Pricing.{Meaning, Outcome}
 use Rattle.audit.specs.Laws.{IsLatestPricing}
-use Rattle.audit.specs.Runs.{is_accepted, view_at_pricing, option_or, view_after_run, is_pricing_of}
-use Rattle.audit.proofs.Months.{altered_at, altered_other, post_state, pushed_state}
+use Rattle.std.specs.Option.{option_or}
+use Rattle.audit.specs.Runs.{is_accepted, view_at_pricing, view_after_run, is_pricing_of}
+use Rattle.audit.proofs.Months.{altered_at, altered_other, Fills, post_fills, day_fills, pushed_state}
 use Rattle.audit.proofs.Sound.{Sound, kept, written_elsewhere}
-use Rattle.audit.proofs.Table.{billing, by_step, finalising, posting, truing}
+use Rattle.audit.proofs.Table.{billing, by_step, finalising, Posting, posting, posting_day, truing}
 
 pub length_amounts : (outcome : Outcome) → is_fault outcome ≡ false → length (amounts_in outcome) ≡ line_count
 unfolding amounts_in
@@ -83,19 +85,22 @@ if_taken : (b : Bool) (P Q : Type 0) → (b ≡ true → P) → (b ≡ false →
 if_taken true P Q p q = p refl
 if_taken false P Q p q = q refl
 
+posted_unpriced : (meaning : Meaning) (n : ℕ) (v : View) → Posting meaning v n → (alter : Month → Month) → Fills alter → (m : ℕ) → 1 ≤ m → Unpriced v m (with_month n alter v)
+posted_unpriced meaning n v h alter fills m low = record {
+  billed =
+      altered_at v.months n alter h.names.low h.names.high m low (λ month. has_reached Billed month.state ≡ true → month_has_reached Billed m v ≡ true)
+      (λ same done. rw same (ap (has_reached Billed) (sym (fills.state (month_at n v))) ∙ done))
+      (λ other done. done);
+  sums = λ l. refl;
+}
+
 priced_after : (meaning : Meaning) (call : Call) (m : ℕ) (v : View) → Sound meaning v → 1 ≤ m → refusal_of meaning call v ≡ None → MatchBool (is_pricing_of m call && true) (Stands meaning v m (view_after meaning call v)) (Unpriced v m (view_after meaning call v))
 priced_after meaning (opens code contract substation carried) m v sound low e = record { billed = λ h. h; sums = λ l. refl }
 priced_after meaning (starts days) m v sound low e =
     record { billed = λ h. sym (ap (has_reached Billed) (pushed_state v.months days (m - 1))) ∙ h; sums = λ l. refl }
-priced_after meaning (posts n post) m v sound low e =
-    let h = (posting meaning v n post e).names in
-    record {
-      billed =
-          altered_at v.months n (with_post post) h.low h.high m low (λ month. has_reached Billed month.state ≡ true → month_has_reached Billed m v ≡ true)
-          (λ same done. rw same (ap (has_reached Billed) (sym (post_state post (month_at n v))) ∙ done))
-          (λ other done. done);
-      sums = λ l. refl;
-    }
+priced_after meaning (posts n place post) m v sound low e = posted_unpriced meaning n v (posting meaning v n place post e) (month_with_post place post) (post_fills place post) m low
+priced_after meaning (posts_day n day code readings) m v sound low e =
+    posted_unpriced meaning n v (posting_day meaning v n day code readings e) (month_with_day day readings) (day_fills day readings) m low
 priced_after meaning (bills n) m v sound low e =
     let h = (billing meaning v n e).names in
     if_taken (eqb n m) (Stands meaning v m (view_after meaning (bills n) v)) (Unpriced v m (view_after meaning (bills n) v))
@@ -122,8 +127,7 @@ priced_after meaning (finalises n) m v sound low e =
           (λ other done. done);
       sums = λ l. refl;
     }
-priced_after meaning (asks (due n)) m v sound low e = record { billed = λ h. h; sums = λ l. refl }
-priced_after meaning (asks (total n line)) m v sound low e = record { billed = λ h. h; sums = λ l. refl }
+priced_after meaning (asks question) m v sound low e = record { billed = λ h. h; sums = λ l. refl }
 
 priced_step : (meaning : Meaning) (call : Call) (m : ℕ) (v : View) → Sound meaning v → 1 ≤ m → MatchBool (is_pricing_of m call && is_accepted meaning call v) (Stands meaning v m (step meaning call v)) (Unpriced v m (step meaning call v))
 priced_step meaning call m v sound low =

@@ -1,7 +1,7 @@
 -- The promise over every run, put together from its laws.
 use Rattle.std.proofs.Common.{◌≡◌, ℕ, ◌+◌, ◌<◌, ◌≤◌, true, false, leb, List, length, get_or, ℤ, pos, is_some, Ok, sym, ap, ◌∙◌, arith}
 use Rattle.std.proofs.lemmas.Bool.{and_from, le-leb}
-use Rattle.book.specs.Calls.{Call, asks_due}
+use Rattle.book.specs.Calls.{Call, asks, whether_due}
 use Rattle.book.specs.Steps.{answer}
 use Rattle.book.specs.Table.{is_fault}
 use Rattle.book.specs.Views.{View, amounts_in, month_has_reached, month_at, month_outcome}
@@ -13,7 +13,6 @@ use Rattle.tariff.specs.Limits.{line_count}
 use Rattle.tariff.specs.Pricing.{Meaning}
 use Rattle.tariff.specs.declared.facts.PlainFacts.{PlainFacts}
 use Rattle.tariff.specs.declared.hours.HourRow.{HourRow}
-use Rattle.audit.specs.Laws as laws
 use Rattle.audit.specs.Laws.{Agree, IsBilled, IsFinal, IsLatestPricing, Promise, Run, new_book, book_after}
 use Rattle.audit.specs.Runs.{view_after_run}
 use Rattle.audit.proofs.Answered.{due_answers, due_decides, due_refuses, not_due, total_answers}
@@ -40,7 +39,7 @@ module _ (meaning : Meaning) (run : Run) (m : ℕ) (billed : IsBilled m (book_af
   sums = latest_sums meaning run.calls m (new_book run) (begun_sound meaning run) (month_there m (book_after meaning run) billed.0).0
 
 -- a line of a month that is not due is what the month is priced at now
-current : (meaning : Meaning) (v : View) (m : ℕ) → Sound meaning v → IsBilled m v → answer meaning (asks (due m)) v ≡ Ok false → (i : ℕ) → i < line_count → line_sum v.ledger m (i + 1) ≡ get_or (amounts_in (month_outcome meaning v m)) i (pos 0)
+current : (meaning : Meaning) (v : View) (m : ℕ) → Sound meaning v → IsBilled m v → answer meaning (asks (whether_due m)) v ≡ Ok false → (i : ℕ) → i < line_count → line_sum v.ledger m (i + 1) ≡ get_or (amounts_in (month_outcome meaning v m)) i (pos 0)
 current meaning v m sound billed answers i here =
     sym (get_or_sums v.ledger m i here) ∙ ap (λ xs. get_or xs i (pos 0)) (sym (not_due meaning v m sound billed answers))
 
@@ -49,14 +48,14 @@ same_days : (meaning other : Meaning) (v w : View) (m n : ℕ) → Sound meaning
 same_days meaning other v w m n one two low some same =
     omega (arith, one.shaped m low, two.shaped n some, ap length same)
 
-alike : (meaning other : Meaning) → ((facts : PlainFacts) (hours : List HourRow) → meaning facts hours ≡ other facts hours) → (v w : View) (m n : ℕ) → Sound meaning v → Sound other w → IsBilled m v → IsBilled n w → Agree v m w n → answer meaning (asks (due m)) v ≡ Ok false → answer other (asks (due n)) w ≡ Ok false → (i : ℕ) → i < line_count → line_sum v.ledger m (i + 1) ≡ line_sum w.ledger n (i + 1)
+alike : (meaning other : Meaning) → ((facts : PlainFacts) (hours : List HourRow) → meaning facts hours ≡ other facts hours) → (v w : View) (m n : ℕ) → Sound meaning v → Sound other w → IsBilled m v → IsBilled n w → Agree v m w n → answer meaning (asks (whether_due m)) v ≡ Ok false → answer other (asks (whether_due n)) w ≡ Ok false → (i : ℕ) → i < line_count → line_sum v.ledger m (i + 1) ≡ line_sum w.ledger n (i + 1)
 alike meaning other same v w m n one two billed billed' agree answers answers' i here =
     let days = same_days meaning other v w m n one two (month_there m v billed.0).0 (month_there n w billed'.0).0 agree.readings in
     current meaning v m one billed answers i here
     ∙ ap (λ outcome. get_or (amounts_in outcome) i (pos 0)) (agreed v m w n agree days meaning other same)
     ∙ sym (current other w n two billed' answers' i here)
 
-final : (meaning : Meaning) (v : View) (m : ℕ) → Sound meaning v → IsFinal m v → (more : List Call) → IsFinal m (view_after_run meaning more v) × (answer meaning (asks (due m)) (view_after_run meaning more v) ≡ Ok false) × ((l : ℕ) → line_sum (view_after_run meaning more v).ledger m l ≡ line_sum v.ledger m l)
+final : (meaning : Meaning) (v : View) (m : ℕ) → Sound meaning v → IsFinal m v → (more : List Call) → IsFinal m (view_after_run meaning more v) × (answer meaning (asks (whether_due m)) (view_after_run meaning more v) ≡ Ok false) × ((l : ℕ) → line_sum (view_after_run meaning more v).ledger m l ≡ line_sum v.ledger m l)
 final meaning v m sound is more =
     let low : 1 ≤ m = (month_there m v is.0).0 in
     let w = view_after_run meaning more v in

@@ -4,22 +4,24 @@ use Rattle.std.proofs.lemmas.List.FromFn.{length-map-range_with_len}
 use Rattle.std.proofs.lemmas.List.{ext_get_or, get_or_past, get_or_push, take-append-le, take-map, take-set-le}
 use Rattle.std.proofs.lemmas.Int.{ints}
 use Rattle.std.proofs.lemmas.Bool.{both_ways, cases_eq, cases_order}
-use Rattle.book.specs.Calls.{Call, opens, starts, posts, bills, trues_up, finalises, asks}
-use Rattle.book.specs.Steps.{view_after, with_month, step, with_ledger, with_post}
+use Rattle.book.specs.Calls.{Call, opens, starts, posts, posts_day, bills, trues_up, finalises, asks}
+use Rattle.store.specs.Posts.{month_with_day, month_with_post}
+use Rattle.book.specs.Steps.{view_after, with_month, step}
 use Rattle.book.specs.Table.{bill_entries, is_fault, refusal_of, true_up_entries}
 use Rattle.book.specs.Views.{View, altered_line, blank, month_has_reached, month_at, month_index, month_outcome}
 use Rattle.ledger.specs.Entries.{entries_for, line_sum, sums}
 use Rattle.ledger.specs.declared.entry.Entry.{Entry}
 use Rattle.ledger.specs.declared.entry.EntryKind.{EntryKind}
 use Rattle.ledger.proofs.Sums.{entries_other_month, get_or_sums, length_sums, line_sum_append, line_sum_none}
-use Rattle.store.specs.Months.{Month, earlier_peaks, new_month, no_month, peak, ratchet, has_reached, with_state}
+use Rattle.store.specs.Months.{Month, earlier_peaks, new_month, no_month, peak, has_reached, with_state}
+use Rattle.store.specs.declared.carried.TheConstants.{RATCHET}
 use Rattle.store.specs.declared.month.State.TheVariants.{Billed, Final}
 use Rattle.tariff.specs.Limits.{line_count}
 use Rattle.tariff.specs.Pricing.{Meaning}
 use Rattle.audit.specs.Runs.{view_after_run}
 use Rattle.audit.proofs.Files.{Spared, spared_altered, spared_priced}
-use Rattle.audit.proofs.Months.{Shaped, altered_here, altered_other, billed_there, final_billed, fresh_shaped, no_month_open, no_month_shaped, none_short, post_shaped, post_state, pushed_other, pushed_state, unbilled_unsettled}
-use Rattle.audit.proofs.Table.{billing, by_step, finalising, opening, posting, starting, truing}
+use Rattle.audit.proofs.Months.{Shaped, altered_here, altered_other, billed_there, final_billed, fresh_shaped, no_month_open, no_month_shaped, none_short, Fills, post_fills, day_fills, pushed_other, pushed_state, unbilled_unsettled}
+use Rattle.audit.proofs.Table.{billing, by_step, finalising, Posting, opening, posting, posting_day, starting, truing}
 
 -- a month that was made final: so are all before it, it can be priced, and pricing it alters nothing
 pub record Settled (meaning : Meaning) (v : View) (m : ℕ) : Type 0 where
@@ -28,7 +30,7 @@ pub record Settled (meaning : Meaning) (v : View) (m : ℕ) : Type 0 where
   pub current : altered_line meaning v m ≡ None
 
 pub record Sound (meaning : Meaning) (v : View) : Type 0 where
-  pub counted : length v.before ≡ ratchet
+  pub counted : length v.before ≡ RATCHET
   -- a blank book has no months
   pub empty : is_some v.point ≡ false → v.months ≡ []
   pub shaped : (m : ℕ) → 1 ≤ m → Shaped (month_at m v)
@@ -57,7 +59,7 @@ written_elsewhere kind ledger m cents n l other =
     let none = entries_other_month kind m 1 cents n l other in
     omega (arith, ints)
 
-settled_still : (meaning : Meaning) (v w : View) (m : ℕ) → length v.before ≡ ratchet → Spared v m w → ((l : ℕ) → line_sum w.ledger m l ≡ line_sum v.ledger m l) → ((n : ℕ) → 1 ≤ n → n < m → month_has_reached Final n v ≡ true → month_has_reached Final n w ≡ true) → Settled meaning v m → Settled meaning w m
+settled_still : (meaning : Meaning) (v w : View) (m : ℕ) → length v.before ≡ RATCHET → Spared v m w → ((l : ℕ) → line_sum w.ledger m l ≡ line_sum v.ledger m l) → ((n : ℕ) → 1 ≤ n → n < m → month_has_reached Final n v ≡ true → month_has_reached Final n w ≡ true) → Settled meaning v m → Settled meaning w m
 settled_still meaning v w m counted spared same before settled = record {
   earlier = λ n low here. before n low here (settled.earlier n low here);
   prices = ap is_fault (sym (spared_priced v m w counted spared meaning)) ∙ settled.prices;
@@ -74,7 +76,7 @@ record Touches (m : ℕ) (v w : View) : Type 0 where
   sums : (n l : ℕ) → n ≢ m → line_sum w.ledger n l ≡ line_sum v.ledger n l
 
 module _ (v : View) (m : ℕ) (low : 1 ≤ m) (ledger : List Entry) (same : (n l : ℕ) → n ≢ m → line_sum ledger n l ≡ line_sum v.ledger n l) where
-  touches_month : (alter : Month → Month) → Touches m v (with_month m alter (with_ledger ledger v))
+  touches_month : (alter : Month → Month) → Touches m v (with_month m alter (record v { ledger = ledger }))
   touches_month alter = record {
     point = refl;
     before = refl;
@@ -83,7 +85,7 @@ module _ (v : View) (m : ℕ) (low : 1 ≤ m) (ledger : List Entry) (same : (n l
     sums = same;
   }
 
-  touches_ledger : Touches m v (with_ledger ledger v)
+  touches_ledger : Touches m v (record v { ledger = ledger })
   touches_ledger = record { point = refl; before = refl; earlier = λ k here. refl; others = λ n some other. refl; sums = same }
 
 peaks_from : (v w : View) (k : ℕ) → take k v.months ≡ take k w.months → take k (map peak v.months) ≡ take k (map peak w.months)
@@ -151,9 +153,9 @@ module _ (meaning : Meaning) (v : View) (sound : Sound meaning v) (opened : is_s
 unmoved : (meaning : Meaning) (v : View) → Sound meaning v → Kept meaning v v
 unmoved meaning v sound = record { sound = sound; final = λ m low final. (final, λ l. refl) }
 
-length_aged : (carried : List ℕ) → length (earlier_peaks carried) ≡ ratchet
+length_aged : (carried : List ℕ) → length (earlier_peaks carried) ≡ RATCHET
 unfolding earlier_peaks
-length_aged carried = length-map-range_with_len (λ i. get_or carried (ratchet - 1 - i) 0) 0 ratchet
+length_aged carried = length-map-range_with_len (λ i. get_or carried (RATCHET - 1 - i) 0) 0 RATCHET
 
 none_final : (v : View) (m : ℕ) → 1 ≤ m → v.months ≡ [] → month_has_reached Final m v ≡ true → ⊥
 none_final v m low none final = omega (arith, billed_there v m low (final_billed (month_at m v).state final), ap length none)
@@ -187,6 +189,17 @@ started_kept meaning v sound opened days m low new =
     (λ l short. sound.unbilled m l low (ap (has_reached Billed) was))
     (λ final. absurd (month_has_reached Final m (view_after meaning (starts days) v)) (ap (has_reached Final) state) final)
 
+posted_kept : (meaning : Meaning) (v : View) → Sound meaning v → (m : ℕ) → Posting meaning v m → (alter : Month → Month) → Fills alter → Kept meaning v (with_month m alter v)
+posted_kept meaning v sound m h alter fills =
+    let low : 1 ≤ m = h.names.low in
+    let month = altered_here v.months m alter low h.names.high in
+    let state = ap (λ month. month.state) month ∙ fills.state (month_at m v) in
+    touched meaning v sound h.names.opened m low h.unsettled (with_month m alter v)
+    (touches_month v m low v.ledger (λ n l other. refl) alter)
+    (rw month (fills.shaped (month_at m v) (sound.shaped m low)))
+    (λ l short. sound.unbilled m l low (sym (ap (has_reached Billed) state) ∙ short))
+    (λ final. absurd (month_has_reached Final m v) h.unsettled (sym (ap (has_reached Final) state) ∙ final))
+
 pub none_some : {X : Type 0} (o : Option X) → is_some o ≡ false → o ≡ None
 none_some None e = refl
 none_some (Some x) e = cc
@@ -195,16 +208,9 @@ pub kept_after : (meaning : Meaning) (call : Call) (v : View) → Sound meaning 
 kept_after meaning (opens code contract substation carried) v sound e =
     opened_kept meaning v sound code contract substation carried (sound.empty (opening meaning v code contract substation carried e))
 kept_after meaning (starts days) v sound e = started_kept meaning v sound (starting meaning v days e) days (length v.months + 1) (omega arith) (omega arith)
-kept_after meaning (posts m post) v sound e =
-    let h = posting meaning v m post e in
-    let low : 1 ≤ m = h.names.low in
-    let month = altered_here v.months m (with_post post) low h.names.high in
-    let state = ap (λ month. month.state) month ∙ post_state post (month_at m v) in
-    touched meaning v sound h.names.opened m low h.unsettled (view_after meaning (posts m post) v)
-    (touches_month v m low v.ledger (λ n l other. refl) (with_post post))
-    (rw month (post_shaped post (month_at m v) (sound.shaped m low)))
-    (λ l short. sound.unbilled m l low (sym (ap (has_reached Billed) state) ∙ short))
-    (λ final. absurd (month_has_reached Final m v) h.unsettled (sym (ap (has_reached Final) state) ∙ final))
+kept_after meaning (posts m place post) v sound e = posted_kept meaning v sound m (posting meaning v m place post e) (month_with_post place post) (post_fills place post)
+kept_after meaning (posts_day m day code readings) v sound e =
+    posted_kept meaning v sound m (posting_day meaning v m day code readings e) (month_with_day day readings) (day_fills day readings)
 kept_after meaning (bills m) v sound e =
     let h = billing meaning v m e in
     let low : 1 ≤ m = h.names.low in
@@ -246,8 +252,7 @@ kept_after meaning (finalises m) v sound e =
       prices = ap is_fault (sym (spared_priced v m w sound.counted spared meaning)) ∙ h.prices;
       current = sym (spared_altered v m w sound.counted spared meaning refl) ∙ none_some (altered_line meaning v m) h.current;
     })
-kept_after meaning (asks (due m)) v sound e = unmoved meaning v sound
-kept_after meaning (asks (total m line)) v sound e = unmoved meaning v sound
+kept_after meaning (asks question) v sound e = unmoved meaning v sound
 
 pub kept : (meaning : Meaning) (call : Call) (v : View) → Sound meaning v → Kept meaning v (step meaning call v)
 kept meaning call v sound =

@@ -2,7 +2,9 @@
 use Rattle.std.proofs.Common.{◌≡◌, ℕ, ◌≤◌, Bool, true, false, cond, not, leb, List, [], ◌∷◌, length, is_some, Some, None, Option, refl}
 use Rattle.std.specs.List.{AllByRecursion}
 use Rattle.std.proofs.lemmas.Bool.{and_parts, leb-true, ltb-false, not-false}
-use Rattle.book.specs.Calls.{Call, Post, opens, starts, posts, bills, trues_up, finalises}
+use Rattle.store.specs.declared.post.Post.{Post}
+use Rattle.store.specs.declared.post.Reading.{Reading}
+use Rattle.book.specs.Calls.{Call, opens, starts, posts, posts_day, bills, trues_up, finalises}
 use Rattle.book.specs.Steps.{view_after, step, view_unless}
 use Rattle.book.specs.Table.{Row, first_holding, is_blank, is_fault, refusal_of, rows}
 use Rattle.book.specs.Views.{View, altered_line, month_has_reached, is_month, month_index, month_outcome}
@@ -56,9 +58,14 @@ module _ (meaning : Meaning) (v : View) where
     pub names : Names m v
     pub unsettled : month_has_reached Final m v ≡ false
 
-  pub posting : (m : ℕ) (post : Post) → refusal_of meaning (posts m post) v ≡ None → Posting m
-  posting m post e =
-      let h = none_holds (rows meaning (posts m post) v) e in
+  pub posting : (m place : ℕ) (post : Post) → refusal_of meaning (posts m place post) v ≡ None → Posting m
+  posting m place post e =
+      let h = none_holds (rows meaning (posts m place post) v) e in
+      record { names = names m v h.0 h.1.0; unsettled = h.1.1.0 }
+
+  pub posting_day : (m day : ℕ) (code : List ℕ) (readings : List Reading) → refusal_of meaning (posts_day m day code readings) v ≡ None → Posting m
+  posting_day m day code readings e =
+      let h = none_holds (rows meaning (posts_day m day code readings) v) e in
       record { names = names m v h.0 h.1.0; unsettled = h.1.1.0 }
 
   pub record Billing (m : ℕ) : Type 0 where

@@ -1,3 +1,3 @@
+pub mod Audits
 pub mod Laws
-pub mod Requests
 pub mod Runs

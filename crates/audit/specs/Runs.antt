@@ -1,6 +1,7 @@
 -- A run: calls performed on a book one after another, all under one schedule.
-use Rattle.std.specs.Prelude.{ℕ, Bool, false, cond, not, ◌&&◌, List, [], ◌∷◌, ◌++◌, is_some, Some, None, Option, ◌==◌}
-use Rattle.book.specs.Calls.{Call, opens, starts, posts, bills, trues_up, finalises, asks}
+use Rattle.std.specs.Prelude.{ℕ, Bool, false, not, ◌&&◌, List, [], ◌∷◌, ◌++◌, is_some, Some, None, Option, ◌==◌, if◌then◌else◌}
+use Rattle.std.specs.Option.{option_or}
+use Rattle.book.specs.Calls.{Call, bills, trues_up}
 use Rattle.book.specs.Steps.{step}
 use Rattle.book.specs.Table.{bill_entries, refusal_of, true_up_entries}
 use Rattle.book.specs.Views.{View}
@@ -17,38 +18,25 @@ is_accepted meaning call v = not (is_some (refusal_of meaning call v))
 
 -- the entries that a call prescribes where it is accepted: a bill's and a true-up's, and no others
 abbrev pub call_entries : Meaning → Call → View → List Entry
-call_entries meaning (opens code contract substation carried) v = []
-call_entries meaning (starts days) v = []
-call_entries meaning (posts m post) v = []
 call_entries meaning (bills m) v = bill_entries meaning v m
 call_entries meaning (trues_up m) v = true_up_entries meaning v m
-call_entries meaning (finalises m) v = []
-call_entries meaning (asks (due m)) v = []
-call_entries meaning (asks (total m line)) v = []
+call_entries meaning _ v = []
 
 -- all that the accepted calls of a run prescribe, in their order
 abbrev pub run_entries : Meaning → List Call → View → List Entry
 run_entries meaning [] v = []
 run_entries meaning (call ∷ calls) v =
-    cond (is_accepted meaning call v) (call_entries meaning call v) [] ++ run_entries meaning calls (step meaning call v)
+    (if is_accepted meaning call v then call_entries meaning call v else []) ++ run_entries meaning calls (step meaning call v)
 
 -- whether a call is a bill or a true-up of the month
 abbrev pub is_pricing_of : ℕ → Call → Bool
-is_pricing_of m (opens code contract substation carried) = false
-is_pricing_of m (starts days) = false
-is_pricing_of m (posts n post) = false
 is_pricing_of m (bills n) = n == m
 is_pricing_of m (trues_up n) = n == m
-is_pricing_of m (finalises n) = false
-is_pricing_of m (asks (due n)) = false
-is_pricing_of m (asks (total n line)) = false
-
-abbrev pub option_or : {X : Type 0} → Option X → Option X → Option X
-option_or (Some x) other = Some x
-option_or None other = other
+is_pricing_of m _ = false
 
 -- what the book held when the month was last priced by an accepted bill or true-up of the run
 abbrev pub view_at_pricing : Meaning → List Call → View → ℕ → Option View
 view_at_pricing meaning [] v m = None
 view_at_pricing meaning (call ∷ calls) v m =
-    option_or (view_at_pricing meaning calls (step meaning call v) m) (cond (is_pricing_of m call && is_accepted meaning call v) (Some v) None)
+    let later = view_at_pricing meaning calls (step meaning call v) m in
+    option_or later (if is_pricing_of m call && is_accepted meaning call v then Some v else None)

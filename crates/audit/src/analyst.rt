@@ -1,17 +1,18 @@
 // Who chooses the calls of a run.
 ghost use Rattle.std.specs.Prelude.{Option as Maybe};
 ghost use Rattle.book.specs.Calls.{Call};
-ghost use Rattle.audit.specs.Requests.{chosen};
-ghost use Rattle.audit.specs.declared.request.Answer.{Answer as Told};
+ghost use Rattle.book.specs.declared.request.Answer.{Answer as LastAnswer};
+ghost use Rattle.audit.specs.Audits.{next_call};
 
-use crate::request::{Answer, Request};
+use book::{Answer, Request};
 
-// An analyst is shown what the last call answered, refusals too, and chooses the next call or
-// stops. What a request lends outlives the analyst, so that it may go on.
+/// An analyst is shown what the last call answered, refusals too, and chooses the next call or
+/// stops. What a request lends outlives the analyst, so that it may go on.
 pub trait Analyst<'d> {
     // which call it chooses, by what it knows and the last answer, and what it knows then
-    ghost chooses: { Self → Told → Maybe Call → Self → Type 0 };
+    ghost chooses: { Self → LastAnswer → Maybe Call → Self → Type 0 };
 
+    /// The next call, or `None` where the run ends; `last` is [`Answer::Begun`] before the first.
     fn next(&mut self, last: &Answer) -> Option<Request<'d>>
-        ensures { chooses self.old last.now (chosen result) self.new };
+        ensures { chooses self.old last.now (next_call result) self.new };
 }

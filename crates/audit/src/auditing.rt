@@ -4,21 +4,20 @@ ghost use Rattle.book.specs.Books.{view};
 ghost use Rattle.book.specs.Calls.{Call};
 ghost use Rattle.book.specs.Table.{IsInOrder, rows};
 ghost use Rattle.book.specs.Views.{View};
+ghost use Rattle.store.specs.Stores.{capacity};
+ghost use Rattle.audit.specs.Audits.{MakesRun};
 ghost use Rattle.audit.specs.Laws.{Promise};
-ghost use Rattle.audit.specs.Requests.{Made, capacity};
 
 use crate::analyst::Analyst;
-use crate::performing::perform;
-use crate::request::Answer;
-use book::Book;
+use book::{Answer, Book, perform};
 use ledger::Entry;
 use store::{Hour, Quarter};
 use tariff::Schedule;
 
-// Makes a book over lent memory, performs the calls that the analyst chooses, each after it was
-// shown what the last one answered, until it stops or so many turns are over, and hands the book
-// back. The contract says which run that was, that all calls are refused by one table, and what
-// holds of every run.
+/// Makes a book over lent memory, performs the calls that the analyst chooses, each after it was
+/// shown what the last one answered, until it stops or so many turns are over, and hands the book
+/// back. The contract says which run that was, that all calls are refused by one table, and what
+/// holds of every run.
 pub fn audit<'a, 'd, S: Schedule, A: Analyst<'d>>(
     quarters: &'a mut [Quarter],
     hours: &'a mut [Hour],
@@ -27,7 +26,9 @@ pub fn audit<'a, 'd, S: Schedule, A: Analyst<'d>>(
     analyst: &mut A,
     turns: usize,
 ) -> Book<'a>
-    ensures made { Made A.chooses (S.meaning schedule.now) turns analyst.old (capacity (length quarters.old) (length hours.old)) (length entries.old) analyst.new (view result) }
+    ensures made { MakesRun A.chooses (S.meaning schedule.now) turns analyst.old
+        (capacity (length quarters.old) (length hours.old)) (length entries.old)
+        analyst.new (view result) }
     ensures ordered { (call : Call) (v : View) → IsInOrder (rows (S.meaning schedule.now) call v) }
     ensures promise { Promise (S.meaning schedule.now) }
 {

@@ -6,9 +6,9 @@ use Rattle.store.specs.declared.post.Reading.{Reading}
 -- what is asked of a month, which changes nothing; the month comes first
 pub data Question : Type 0 where
   -- whether pricing the file now would alter a line
-  due : ℕ → Question
+  whether_due : ℕ → Question
   -- what the entries of a line add up to
-  total : ℕ → ℕ → Question
+  line_total : ℕ → ℕ → Question
 
 -- a call that names a month has it first; the schedule of those that price is given beside the call
 pub data Call : Type 0 where
@@ -26,8 +26,8 @@ pub data Call : Type 0 where
   asks : Question → Call
 
 abbrev pub ReplyTo : Question → Type 0
-ReplyTo (due m) = Bool
-ReplyTo (total m line) = ℤ
+ReplyTo (whether_due m) = Bool
+ReplyTo (line_total m line) = ℤ
 
 -- the new month's number, the number of entries written, what was asked, or nothing
 abbrev pub Reply : Call → Type 0

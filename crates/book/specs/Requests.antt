@@ -1,7 +1,7 @@
 -- Requests and answers as values, as the book's calls and what is answered to them.
 use Rattle.std.specs.Prelude.{Ok, Err, Result}
 use Rattle.tariff.specs.declared.refusal.Refusal.{Refusal}
-use Rattle.book.specs.Calls.{Call, opens, starts, posts, posts_day, bills, trues_up, finalises, asks, Question, due, total, Reply, ReplyTo}
+use Rattle.book.specs.Calls.{Call, opens, starts, posts, posts_day, bills, trues_up, finalises, asks, Question, whether_due, line_total, Reply, ReplyTo}
 use Rattle.book.specs.declared.request.Answer.{Answer}
 use Rattle.book.specs.declared.request.Answer.TheVariants.{Done, Started, Written, IsDue, Sum, Refused}
 use Rattle.book.specs.declared.request.Request.{Request}
@@ -15,8 +15,8 @@ call_of (PostDay m day code readings) = posts_day m day code readings.now
 call_of (Bill m) = bills m
 call_of (TrueUp m) = trues_up m
 call_of (Finalise m) = finalises m
-call_of (Due m) = asks (due m)
-call_of (Total m line) = asks (total m line)
+call_of (Due m) = asks (whether_due m)
+call_of (Total m line) = asks (line_total m line)
 
 -- a reply as the answer that says so, or the refusal
 abbrev pub answer_by : {X : Type 0} → (X → Answer) → Result X Refusal → Answer
@@ -25,8 +25,8 @@ answer_by as_answer (Err refusal) = Refused refusal
 
 -- a call's answer as a value
 abbrev pub question_answer : (question : Question) → Result (ReplyTo question) Refusal → Answer
-question_answer (due m) = answer_by IsDue
-question_answer (total m line) = answer_by Sum
+question_answer (whether_due m) = answer_by IsDue
+question_answer (line_total m line) = answer_by Sum
 
 abbrev pub answer_of : (call : Call) → Result (Reply call) Refusal → Answer
 answer_of (starts days) = answer_by Started

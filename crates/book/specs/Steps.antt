@@ -7,7 +7,7 @@ use Rattle.store.specs.Posts.{month_with_day, month_with_post}
 use Rattle.store.specs.declared.month.State.TheVariants.{Billed, Final}
 use Rattle.tariff.specs.Pricing.{Meaning}
 use Rattle.tariff.specs.declared.refusal.Refusal.{Refusal}
-use Rattle.book.specs.Calls.{Call, opens, starts, posts, posts_day, bills, trues_up, finalises, asks, Question, due, total, Reply, ReplyTo}
+use Rattle.book.specs.Calls.{Call, opens, starts, posts, posts_day, bills, trues_up, finalises, asks, Question, whether_due, line_total, Reply, ReplyTo}
 use Rattle.book.specs.Table.{bill_entries, refusal_of, true_up_entries}
 use Rattle.book.specs.Views.{View, altered_line, month_index}
 
@@ -35,8 +35,8 @@ view_after meaning (asks question) v = v
 
 -- what a question replies
 abbrev pub question_reply : Meaning → (question : Question) → View → ReplyTo question
-question_reply meaning (due m) v = is_some (altered_line meaning v m)
-question_reply meaning (total m line) v = line_sum v.ledger m line
+question_reply meaning (whether_due m) v = is_some (altered_line meaning v m)
+question_reply meaning (line_total m line) v = line_sum v.ledger m line
 
 -- what an accepted call replies
 abbrev pub reply : Meaning → (call : Call) → View → Reply call

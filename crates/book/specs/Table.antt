@@ -18,7 +18,7 @@ use Rattle.tariff.specs.declared.refusal.Refusal.{Refusal}
 use Rattle.tariff.specs.declared.refusal.Refusal.TheVariants.{BookBlank, BookOpen, OpeningOutside, NoMonthFree, DaysOutside, NoSuchMonth, MonthFinal, NoSuchPlace, OtherPoint, OutsideLimit, Missing, MonthBilled, MonthOpen, EarlierMonth, LinePastLimit, LedgerFull, MonthDue}
 use Rattle.store.specs.declared.post.Post.{Post}
 use Rattle.store.specs.declared.post.Reading.{Reading}
-use Rattle.book.specs.Calls.{Call, opens, starts, posts, posts_day, bills, trues_up, finalises, asks, Question, due, total}
+use Rattle.book.specs.Calls.{Call, opens, starts, posts, posts_day, bills, trues_up, finalises, asks, Question, whether_due, line_total}
 use Rattle.book.specs.Views.{View, BilledPoint, altered_line, amounts_in, month_has_reached, is_month, month_at, month_index, month_outcome, sums_of}
 
 pub record Row : Type 0 where
@@ -145,8 +145,8 @@ total_rows m line v =
 
 -- the rows of a question, the uppermost first
 abbrev pub question_rows : Meaning → Question → View → List Row
-question_rows meaning (due m) v = blank_book m v ∷ no_such_month m v ∷ due_rows meaning m v
-question_rows meaning (total m line) v = blank_book m v ∷ no_such_month m v ∷ total_rows m line v
+question_rows meaning (whether_due m) v = blank_book m v ∷ no_such_month m v ∷ due_rows meaning m v
+question_rows meaning (line_total m line) v = blank_book m v ∷ no_such_month m v ∷ total_rows m line v
 
 -- a call's rows, the uppermost first; calls that name a month begin alike
 abbrev pub rows : Meaning → Call → View → List Row

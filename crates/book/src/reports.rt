@@ -17,7 +17,7 @@ pub struct MonthOnFile {
 
 impl Book<'_> {
     ghost use Rattle.book.specs.Books.{Answers, view};
-    ghost use Rattle.book.specs.Calls.{asks, due, total};
+    ghost use Rattle.book.specs.Calls.{asks, whether_due, line_total};
     ghost use Rattle.book.specs.OnFile.{IsOnFile, month_rows};
     ghost use Rattle.book.specs.Table.{IsInOrder, first_holding};
     ghost use Rattle.book.specs.Texts.{text_answer, text_bytes, text_rows};
@@ -37,7 +37,7 @@ impl Book<'_> {
 
     /// Whether pricing the file now would alter any line's sum of a billed month.
     pub fn due<S: Schedule>(&self, month: u32, schedule: &S) -> Result<bool, Refusal>
-        ensures { Answers (S.meaning schedule.now) (asks (due month)) self.now result }
+        ensures { Answers (S.meaning schedule.now) (asks (whether_due month)) self.now result }
     {
         let named = self.named_month(month)?;
         if !named.state.has_reached(State::Billed) {
@@ -54,7 +54,7 @@ impl Book<'_> {
 
     /// What the entries of a billed month for a line, from 1, add up to in cents.
     pub fn total(&self, month: u32, line: u32) -> Result<i64, Refusal>
-        ensures { (meaning : Meaning) → Answers meaning (asks (total month line)) self.now result }
+        ensures { (meaning : Meaning) → Answers meaning (asks (line_total month line)) self.now result }
     {
         let named = self.named_month(month)?;
         if line < 1 || LINES < line as usize {

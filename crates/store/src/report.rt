@@ -2,6 +2,8 @@
 ghost use Rattle.std.specs.Prelude.{◌≡◌, ℕ, ◌+◌, ◌*◌, ◌<◌, ◌≤◌, [], map, min, length, take, is_none, IfSome, MatchOption, slice_index_or};
 ghost use Rattle.std.specs.List.{position, range_with_len};
 ghost use Rattle.tariff.specs.Limits.{HourWithin, RowsWithin, most_hours, no_row};
+ghost use Rattle.tariff.specs.declared.limits.TheConstants.{MOST_ENERGY};
+ghost use Rattle.store.specs.declared.month.TheConstants.{MOST_DAYS};
 ghost use Rattle.store.specs.Months.{hour_row};
 ghost use Rattle.store.specs.Records.{hour_of, reading_of, stretch};
 
@@ -85,7 +87,7 @@ fn blank_rows() -> [HourRow; MONTH_HOURS]
 fn energy(quarters: &[Quarter], h: usize) -> u32
     requires { 4 * h + 4 ≤ length quarters.now }
     ensures summed { result ≡ (hour_row (map reading_of quarters.now) [] h).energy }
-    ensures within { result ≤ 4000000 }
+    ensures within { result ≤ MOST_ENERGY }
 {
     let first = 4 * h;
     quarters[first].kw()
@@ -123,10 +125,10 @@ impl Store<'_> {
     // `k`; none where it is not on file.
     fn on_file<'m, T>(&self, memory: &'m [T], room: usize, a_day: usize, k: usize) -> &'m [T]
         requires held { room * self.now.started ≤ length memory.now }
-        requires roomed { a_day * 31 ≤ room }
+        requires roomed { a_day * MOST_DAYS ≤ room }
         ensures read { result.now ≡ stretch room k (a_day * (month_at self.now k).days) memory.now }
         ensures counted { length result.now ≡ a_day * (month_at self.now k).days }
-        ensures few { length result.now ≤ a_day * 31 }
+        ensures few { length result.now ≤ a_day * MOST_DAYS }
     {
         match self.month(k) {
             Some(month) => Memory::stretch(memory, room, k, a_day * month.days as usize),

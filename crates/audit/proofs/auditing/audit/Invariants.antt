@@ -2,7 +2,7 @@ use Rattle.std.proofs.Common.{◌≡◌, ℕ, ◌+◌, List}
 use Rattle.book.specs.Books.{view}
 use Rattle.book.specs.Calls.{Call}
 use Rattle.book.specs.Views.{View}
-use Rattle.audit.specs.Requests.{Audits}
+use Rattle.audit.specs.Audits.{Audits}
 use Rattle.audit.proofs.auditing.audit.Given as goal
 
 -- however the turns that are left go on, the whole is an audit from where it began

@@ -1,7 +1,7 @@
 use Rattle.std.proofs.Common.{◌≡◌, Some, None, Option, Ok, Err, Result, sym, refl, ap, ◌∙◌}
 use Rattle.std.specs.Result.{MatchResult}
 use Rattle.book.specs.Books.{Performs, view}
-use Rattle.book.specs.Calls.{Reply, asks, due, total}
+use Rattle.book.specs.Calls.{Reply, asks, whether_due, line_total}
 use Rattle.book.specs.Steps.{answer, step, view_unless}
 use Rattle.book.specs.Table.{refusal_of}
 use Rattle.book.specs.Views.{View}
@@ -72,10 +72,10 @@ pub returns-in-Due : goal.returns-in-Due
 returns-in-Due g c =
     let meaning = g.S.Schedule.meaning c.args.schedule.now in
     let v = view c.args.book.now in
-    record { answers = answers_as meaning v c.in-Due.is IsDue (λ r. refl) _ _ c.map_or_else-in-Due.ensures c.due.ensures; leaves = leaves_as meaning v c.in-Due.is IsDue (λ r. refl) _ (unmoved (refusal_of meaning (asks (due c.in-Due.month)) v) v) }
+    record { answers = answers_as meaning v c.in-Due.is IsDue (λ r. refl) _ _ c.map_or_else-in-Due.ensures c.due.ensures; leaves = leaves_as meaning v c.in-Due.is IsDue (λ r. refl) _ (unmoved (refusal_of meaning (asks (whether_due c.in-Due.month)) v) v) }
 
 pub returns-in-Total : goal.returns-in-Total
 returns-in-Total g c =
     let meaning = g.S.Schedule.meaning c.args.schedule.now in
     let v = view c.args.book.now in
-    record { answers = answers_as meaning v c.in-Total.is Sum (λ r. refl) _ _ c.map_or_else-in-Total.ensures (c.total.ensures meaning); leaves = leaves_as meaning v c.in-Total.is Sum (λ r. refl) _ (unmoved (refusal_of meaning (asks (total c.in-Total.month c.in-Total.line)) v) v) }
+    record { answers = answers_as meaning v c.in-Total.is Sum (λ r. refl) _ _ c.map_or_else-in-Total.ensures (c.total.ensures meaning); leaves = leaves_as meaning v c.in-Total.is Sum (λ r. refl) _ (unmoved (refusal_of meaning (asks (line_total c.in-Total.month c.in-Total.line)) v) v) }
