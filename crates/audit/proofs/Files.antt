@@ -1,5 +1,5 @@
 -- What pricing a month depends on: the file of that month, and the peaks before it.
-use Rattle.std.proofs.Common.{◌≡◌, ℕ, suc, ◌+◌, List, [], ◌∷◌, ◌++◌, map, length, take, drop, Option, sym, refl, ap, ◌∙◌, arith}
+use Rattle.std.proofs.Common.{◌≡◌, ℕ, suc, ◌+◌, List, [], ◌∷◌, ◌++◌, map, length, take, drop, sym, refl, ap, ◌∙◌, arith}
 use Rattle.std.proofs.lemmas.List.{drop-take}
 use Rattle.book.specs.Views.{View, altered_line, contract_of, facts_of, month_at, month_index, month_outcome, substation_of, sums_of}
 use Rattle.store.specs.Facts.{facts_of_month}

@@ -1,4 +1,4 @@
-use Rattle.std.proofs.Common.{◌≡◌, ap, refl, arith, ◌∙◌}
+use Rattle.std.proofs.Common.{ap, refl, arith, ◌∙◌}
 use Rattle.store.specs.Facts.{facts_of_month}
 use Rattle.store.specs.Stores.{month_at}
 use Rattle.store.proofs.Peaks.{peak_kva_read, peak_under_kva}
