@@ -11,7 +11,11 @@ use Rattle.book.specs.declared.book.Book.{Book}
 use Rattle.book.specs.declared.point.Point.{Point}
 
 abbrev pub point_of : Option Point → Option BilledPoint
-point_of (Some point) = Some (record { code = point.code; contract = point.contract; substation = point.substation })
+point_of (Some point) = Some (record {
+  code = point.code;
+  contract = point.capacities.contract;
+  substation = point.capacities.substation;
+})
 point_of None = None
 
 abbrev pub view : Book → View

@@ -4,7 +4,7 @@ ghost use Rattle.tariff.specs.Pricing.{Meaning};
 
 use crate::book::Book;
 use crate::point::{Point, PointCode};
-use tariff::{MOST_DEMAND, Refusal};
+use tariff::{Capacities, Refusal};
 
 impl Book<'_> {
     ghost use Rattle.book.specs.Books.{Performs};
@@ -26,15 +26,9 @@ impl Book<'_> {
         if self.point.is_some() {
             return Err(Refusal::BookOpen);
         }
-        if contract < 1 || substation < contract || MOST_DEMAND < substation {
-            return Err(Refusal::OpeningOutside);
-        }
+        let capacities = Capacities::new(contract, substation).ok_or(Refusal::OpeningOutside)?;
         self.store.carry(carried)?;
-        self.point = Some(Point {
-            code,
-            contract,
-            substation,
-        });
+        self.point = Some(Point { code, capacities });
         Ok(())
     }
 

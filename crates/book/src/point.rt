@@ -1,10 +1,10 @@
 // The point that a book bills.
-ghost use Rattle.std.specs.Prelude.{◌≡◌, ◌≤◌, ◌≢◌, List, ℕ, length, MatchResult};
-ghost use Rattle.tariff.specs.Limits.{most_demand};
+ghost use Rattle.std.specs.Prelude.{◌≡◌, ◌≢◌, List, ℕ, length, MatchResult};
 
 use std::error::Error;
 use std::fmt;
 use std::marker::Model;
+use tariff::Capacities;
 
 /// The code of a point, as its operator names it: eight bytes.
 #[derive(Clone, Copy, PartialEq, Eq, Debug)]
@@ -60,13 +60,11 @@ impl TryFrom<&str> for PointCode {
     }
 }
 
-// A point's contract and substation total are in kW, each within its limits.
+// The point that is billed: its code, and what is contracted at it.
 #[derive(Clone, Copy)]
 pub(crate) struct Point {
     pub(crate) code: PointCode,
-    pub(crate) contract: u32,
-    pub(crate) substation: u32,
-    ghost within: { (1 ≤ contract) × (contract ≤ substation) × (substation ≤ most_demand) },
+    pub(crate) capacities: Capacities,
 }
 
 impl Point {

@@ -21,7 +21,7 @@ mod totals;
 
 pub use amounts::{Amounts, Lines};
 pub use charges::Charges;
-pub use facts::{Facts, PlainFacts};
+pub use facts::{Capacities, Facts, PlainFacts};
 pub use figure::Figure;
 pub use figures::{Figures, MOST_FIGURES, Own};
 pub use hours::{HourList, HourRow, Hours};
