@@ -9,7 +9,7 @@ use journal::{Call, Verb};
 use ledger::MOST_BYTES;
 use piles::PileError;
 use std::alloc::Global;
-use std::io::{self, Write};
+use std::io::Write;
 use store::Post;
 use tariff::Refusal;
 
@@ -46,50 +46,12 @@ impl<'b> Desk<'b> {
         out: &mut W,
     ) -> Result<()> {
         let alloc = surroundings.rt.alloc();
-        match *call {
+        // what the desk does itself is answered at once, and the rest is asked of the book
+        let request = match *call {
             // memory is given before the book is made
             Call::Memory { .. } => return Err(LineError::LateMemory.into()),
-            Call::Rate(rate) => write_chosen(out, self.schedule.begin(alloc, rate))?,
-            Call::Rider(rider) => write_chosen(out, self.schedule.lay(rider))?,
-            Call::Open {
-                code,
-                contract,
-                substation,
-                ref carried,
-            } => {
-                let code = point_code(code, Verb::Open)?;
-                let carried = &carried[..];
-                self.ask(
-                    Request::Open {
-                        code,
-                        contract,
-                        substation,
-                        carried,
-                    },
-                    out,
-                )?;
-            }
-            Call::PostDay {
-                month,
-                day,
-                code,
-                ref readings,
-            } => {
-                let code = point_code(code, Verb::Day)?;
-                let readings = &readings[..];
-                self.ask(
-                    Request::PostDay {
-                        month,
-                        day,
-                        code,
-                        readings,
-                    },
-                    out,
-                )?;
-            }
-            Call::Post { month, place, post } => {
-                self.ask(Request::Post { month, place, post }, out)?;
-            }
+            Call::Rate(rate) => return write_chosen(out, self.schedule.begin(alloc, rate)),
+            Call::Rider(rider) => return write_chosen(out, self.schedule.lay(rider)),
             Call::PostRange {
                 month,
                 first,
@@ -97,35 +59,47 @@ impl<'b> Desk<'b> {
                 post,
             } => {
                 let count = (u64::from(last) + 1).saturating_sub(first.into());
-                write_count(out, self.post_range(month, first, last, post), count)?;
+                return write_count(out, self.post_range(month, first, last, post), count);
             }
             Call::Load { kind, month, file } => {
                 let posts = load(surroundings, kind, file)?;
-                write_count(out, self.post_list(month, &posts), posts.len() as u64)?;
+                return write_count(out, self.post_list(month, &posts), posts.len() as u64);
             }
-            Call::Start { days } => self.ask(Request::Start { days }, out)?,
-            Call::Bill { month } => self.ask(Request::Bill { month }, out)?,
-            Call::TrueUp { month } => self.ask(Request::TrueUp { month }, out)?,
-            Call::Finalise { month } => self.ask(Request::Finalise { month }, out)?,
-            Call::Due { month } => self.ask(Request::Due { month }, out)?,
-            Call::Total { month, line } => self.ask(Request::Total { month, line }, out)?,
-            Call::Text { entry } => self.write_text(entry, out)?,
-            Call::Ledger => self.write_ledger(out)?,
-            Call::Statement { month } => self.write_statement(alloc, month, out)?,
-        }
-        Ok(())
-    }
-
-    fn ask<W: Write>(&mut self, request: Request<'_>, out: &mut W) -> io::Result<()> {
-        match perform(&mut self.book, &self.schedule.pile, request) {
-            Answer::Begun | Answer::Done => writeln!(out, "ok"),
-            Answer::Started(month) => writeln!(out, "ok {month}"),
-            Answer::Written(entries) => writeln!(out, "ok {entries}"),
-            Answer::IsDue(true) => writeln!(out, "ok yes"),
-            Answer::IsDue(false) => writeln!(out, "ok no"),
-            Answer::Sum(cents) => writeln!(out, "ok {cents}"),
-            Answer::Refused(refusal) => writeln!(out, "{refusal}"),
-        }
+            Call::Text { entry } => return self.write_text(entry, out),
+            Call::Ledger => return self.write_ledger(out),
+            Call::Statement { month } => return self.write_statement(alloc, month, out),
+            Call::Open {
+                code,
+                contract,
+                substation,
+                ref carried,
+            } => Request::Open {
+                code: point_code(code, Verb::Open)?,
+                contract,
+                substation,
+                carried: &carried[..],
+            },
+            Call::PostDay {
+                month,
+                day,
+                code,
+                ref readings,
+            } => Request::PostDay {
+                month,
+                day,
+                code: point_code(code, Verb::Day)?,
+                readings: &readings[..],
+            },
+            Call::Post { month, place, post } => Request::Post { month, place, post },
+            Call::Start { days } => Request::Start { days },
+            Call::Bill { month } => Request::Bill { month },
+            Call::TrueUp { month } => Request::TrueUp { month },
+            Call::Finalise { month } => Request::Finalise { month },
+            Call::Due { month } => Request::Due { month },
+            Call::Total { month, line } => Request::Total { month, line },
+        };
+        let answer = perform(&mut self.book, &self.schedule.pile, request);
+        write_answer(out, &answer)
     }
 
     // Posts place after place, up to the first that is refused.
@@ -143,19 +117,20 @@ impl<'b> Desk<'b> {
         Ok(())
     }
 
-    fn write_text<W: Write>(&self, entry: u32, out: &mut W) -> io::Result<()> {
+    fn write_text<W: Write>(&self, entry: u32, out: &mut W) -> Result<()> {
         let mut line = [0; MOST_BYTES];
         match self.book.text(entry, &mut line) {
-            Ok(length) => out.write_all(&line[..length]),
-            Err(refusal) => writeln!(out, "{refusal}"),
+            Ok(length) => out.write_all(&line[..length])?,
+            Err(refusal) => writeln!(out, "{refusal}")?,
         }
+        Ok(())
     }
 
     // All entries; a blank book has no ledger to be asked for.
-    fn write_ledger<W: Write>(&self, out: &mut W) -> io::Result<()> {
+    fn write_ledger<W: Write>(&self, out: &mut W) -> Result<()> {
         let mut line = [0; MOST_BYTES];
         if let Err(blank @ Refusal::BookBlank { .. }) = self.book.text(0, &mut line) {
-            return writeln!(out, "{blank}");
+            writeln!(out, "{blank}")?;
         }
         let entries = self.book.ledger();
         for entry in 0..entries.slice.len() {
@@ -188,9 +163,23 @@ pub(crate) fn write_chosen<W: Write>(out: &mut W, chosen: Result<(), PileError>)
     Ok(())
 }
 
-fn write_count<W: Write>(out: &mut W, posted: Result<(), Refusal>, count: u64) -> io::Result<()> {
+fn write_count<W: Write>(out: &mut W, posted: Result<(), Refusal>, count: u64) -> Result<()> {
     match posted {
-        Ok(()) => writeln!(out, "ok {count}"),
-        Err(refusal) => writeln!(out, "{refusal}"),
+        Ok(()) => writeln!(out, "ok {count}")?,
+        Err(refusal) => writeln!(out, "{refusal}")?,
     }
+    Ok(())
+}
+
+fn write_answer<W: Write>(out: &mut W, answer: &Answer) -> Result<()> {
+    match answer {
+        Answer::Begun | Answer::Done => writeln!(out, "ok")?,
+        Answer::Started(month) => writeln!(out, "ok {month}")?,
+        Answer::Written(entries) => writeln!(out, "ok {entries}")?,
+        Answer::IsDue(true) => writeln!(out, "ok yes")?,
+        Answer::IsDue(false) => writeln!(out, "ok no")?,
+        Answer::Sum(cents) => writeln!(out, "ok {cents}")?,
+        Answer::Refused(refusal) => writeln!(out, "{refusal}")?,
+    }
+    Ok(())
 }
