@@ -6,12 +6,13 @@ use Rattle.tariff.specs.Pricing.{Meaning}
 use Rattle.tariff.specs.declared.refusal.Refusal.{Refusal}
 use Rattle.book.specs.Calls.{Call, Reply}
 use Rattle.book.specs.Steps.{answer, step}
+use Rattle.book.specs.PointCodes.{code_bytes}
 use Rattle.book.specs.Views.{BilledPoint, View}
 use Rattle.book.specs.declared.book.Book.{Book}
 use Rattle.book.specs.declared.point.Point.{Point}
 
 abbrev pub point_of : Option Point → Option BilledPoint
-point_of (Some point) = Some (record { code = point.code; contract = point.contract; substation = point.substation })
+point_of (Some point) = Some (record { code = code_bytes point.code; contract = point.contract; substation = point.substation })
 point_of None = None
 
 abbrev pub view : Book → View
