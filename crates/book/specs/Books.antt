@@ -26,8 +26,10 @@ view book = record {
 }
 
 -- the same point, months and entries, with every record of the lent memory
-abbrev pub IsUnaltered : Book → Book → Type 0
-IsUnaltered book book' = (book'.point ≡ book.point) × (book'.store ≡ book.store) × (book'.ledger ≡ book.ledger)
+pub record IsUnaltered (book book' : Book) : Type 0 where
+  pub point : book'.point ≡ book.point
+  pub store : book'.store ≡ book.store
+  pub ledger : book'.ledger ≡ book.ledger
 
 -- what a call that changes nothing answers
 abbrev pub Answers : Meaning → (call : Call) → Book → Result (Reply call) Refusal → Type 0
