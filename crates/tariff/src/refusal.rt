@@ -1,4 +1,5 @@
 ghost use Rattle.std.specs.Prelude.{◌≡◌, Some};
+ghost use Rattle.tariff.specs.declared.refusal.Refusal.TheVariants.{LinePastLimit};
 ghost use Rattle.tariff.specs.Refusals.{fault_text, numbers_of, refusal_text};
 
 use crate::line::Line;
@@ -136,3 +137,11 @@ impl fmt::Display for Refusal {
 }
 
 impl Error for Refusal {}
+
+impl From<Fault> for Refusal {
+    ghost from_gives = { λ fault refusal. refusal ≡ LinePastLimit 0 fault };
+
+    fn from(fault: Fault) -> Refusal {
+        Refusal::LinePastLimit { month: 0, fault }
+    }
+}
