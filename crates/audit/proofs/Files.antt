@@ -23,9 +23,9 @@ pub peak_from : (a b : Month) → a.readings ≡ b.readings → peak a ≡ peak 
 unfolding peak
 peak_from a b e = ap (λ readings. top (map kw_of readings)) e
 
-apparent_from : (a b : Month) → a.readings ≡ b.readings → peak_kva a ≡ peak_kva b
+peak_kva_from : (a b : Month) → a.readings ≡ b.readings → peak_kva a ≡ peak_kva b
 unfolding peak_kva
-apparent_from a b e = ap (λ readings. top (map kva_of readings)) e
+peak_kva_from a b e = ap (λ readings. top (map kva_of readings)) e
 
 facts_from : ℕ → ℕ → ℕ → ℕ → ℕ → PlainFacts
 facts_from contract substation peak peak_kva ratchet_peak = record {
@@ -36,18 +36,20 @@ facts_from contract substation peak peak_kva ratchet_peak = record {
   ratchet_peak = ratchet_peak;
 }
 
-facts_of_from : (v : View) (m : ℕ) → facts_of v m ≡ facts_from (contract_of v.point) (substation_of v.point) (peak (month_at m v)) (peak_kva (month_at m v)) (facts_of v m).ratchet_peak
+facts_of_from : (v : View) (m : ℕ)
+    → facts_of v m ≡ facts_from (contract_of v.point) (substation_of v.point) (peak (month_at m v)) (peak_kva (month_at m v)) (facts_of v m).ratchet_peak
 unfolding facts_of facts_from
 facts_of_from v m = refl
 
 -- books that agree on a month price it alike, where its days are alike too
-module _ (v : View) (m : ℕ) (w : View) (n : ℕ) (agree : Agree v m w n) (days : (month_at m v).days ≡ (month_at n w).days) where
+module _ (v : View) (m : ℕ) (w : View) (n : ℕ) (agree : Agree v m w n)
+    (days : (month_at m v).days ≡ (month_at n w).days) where
   agreed_facts : facts_of v m ≡ facts_of w n
   agreed_facts =
       let one = facts_of_from v m in
       let two = facts_of_from w n in
       let peaks = peak_from (month_at m v) (month_at n w) agree.readings in
-      let apparents = apparent_from (month_at m v) (month_at n w) agree.readings in
+      let peaks_kva = peak_kva_from (month_at m v) (month_at n w) agree.readings in
       cc (agree.contract, agree.substation, agree.ratchet_peak)
 
   agreed_hours : hour_rows (month_at m v) ≡ hour_rows (month_at n w)
@@ -56,7 +58,9 @@ module _ (v : View) (m : ℕ) (w : View) (n : ℕ) (agree : Agree v m w n) (days
       let two = hour_rows_from (month_at n w) in
       cc (agree.readings, agree.hours)
 
-  pub agreed : (meaning other : Meaning) → ((facts : PlainFacts) (hours : List HourRow) → meaning facts hours ≡ other facts hours) → month_outcome meaning v m ≡ month_outcome other w n
+  pub agreed : (meaning other : Meaning)
+      → ((facts : PlainFacts) (hours : List HourRow) → meaning facts hours ≡ other facts hours)
+      → month_outcome meaning v m ≡ month_outcome other w n
   unfolding month_outcome
   agreed meaning other alike =
       let same = alike (facts_of w n) (hour_rows (month_at n w)) in
@@ -71,7 +75,8 @@ take_past (x ∷ xs) ys k =
     let one : k + suc (length xs) ≡ suc (k + length xs) = omega arith in
     ap (λ n. take n (x ∷ (xs ++ ys))) one ∙ ap (λ zs. x ∷ zs) (take_past xs ys k)
 
-window : {X : Type 0} (xs ys : List X) (n k : ℕ) → length xs ≡ n → take n (drop k (xs ++ ys)) ≡ drop k (xs ++ take k ys)
+window : {X : Type 0} (xs ys : List X) (n k : ℕ) → length xs ≡ n
+    → take n (drop k (xs ++ ys)) ≡ drop k (xs ++ take k ys)
 window xs ys n k e =
     sym (drop-take k n (xs ++ ys)) ∙ ap (λ j. drop k (take (k + j) (xs ++ ys))) (sym e) ∙ ap (drop k) (take_past xs ys k)
 
@@ -104,6 +109,7 @@ module _ (v : View) (m : ℕ) (w : View) (counted : length v.before ≡ RATCHET)
       })
       spared.days meaning meaning (λ facts hours. refl)
 
-  pub spared_altered : (meaning : Meaning) → sums_of v m ≡ sums_of w m → altered_line meaning v m ≡ altered_line meaning w m
+  pub spared_altered : (meaning : Meaning) → sums_of v m ≡ sums_of w m
+      → altered_line meaning v m ≡ altered_line meaning w m
   unfolding altered_line
   spared_altered meaning e = let p = spared_priced meaning in cc

@@ -9,11 +9,14 @@ use Rattle.book.proofs.book.Book.facts.Goals as goal
 
 -- a month on file has its demand figures
 module _ (before : List ℕ) (months : List Month) (k : ℕ) where
-  there : (demand : Option Demand) → MatchOption demand (length months ≤ k) (IsDemandOf before months k) → k < length months → IsSome demand
+  there : (demand : Option Demand) → MatchOption demand (length months ≤ k) (IsDemandOf before months k)
+      → k < length months → IsSome demand
   there (Some demand) is here = search rules
   there None none here = absurd (omega arith)
 
-  figures : (o : Option Demand) (demand : Demand) → MatchOption o (length months ≤ k) (IsDemandOf before months k) → o ≡ Some demand → IsDemandOf before months k demand
+  figures : (o : Option Demand) (demand : Demand)
+      → MatchOption o (length months ≤ k) (IsDemandOf before months k) → o ≡ Some demand
+      → IsDemandOf before months k demand
   figures (Some one) demand is same = let e : one ≡ demand = cc in rw e at is
   figures None demand none same = absurd (let never : ◌≡◌ {A = ℕ} 0 1 = cc in omega arith)
 
