@@ -35,13 +35,16 @@ module _ (meaning : Meaning) (v : View) (m : ℕ) (sound : Sound meaning v) (bil
       ∙ cond-false _ _ _ (not_from_true _ billed.0)
       ∙ cond-false _ _ _ (not_from_true _ billed.1))
 
-  pub due_refuses : (fault : _) → month_outcome meaning v m ≡ Err fault → answer meaning (asks (whether_due m)) v ≡ Err (LinePastLimit m fault)
+  pub due_refuses : (fault : _) → month_outcome meaning v m ≡ Err fault
+      → answer meaning (asks (whether_due m)) v ≡ Err (LinePastLimit m fault)
   due_refuses fault e = due_answer ∙ rw e refl
 
-  pub due_answers : is_fault (month_outcome meaning v m) ≡ false → answer meaning (asks (whether_due m)) v ≡ Ok (is_some (altered_line meaning v m))
+  pub due_answers : is_fault (month_outcome meaning v m) ≡ false
+      → answer meaning (asks (whether_due m)) v ≡ Ok (is_some (altered_line meaning v m))
   due_answers e = due_answer ∙ rw e refl
 
-  pub total_answers : (i : ℕ) → i < line_count → answer meaning (asks (line_total m (i + 1))) v ≡ Ok (line_sum v.ledger m (i + 1))
+  pub total_answers : (i : ℕ) → i < line_count
+      → answer meaning (asks (line_total m (i + 1))) v ≡ Ok (line_sum v.ledger m (i + 1))
   total_answers i here =
       ap (λ refusal. reply_unless refusal (line_sum v.ledger m (i + 1)))
       (cond-false _ _ _ (not_from_true _ (opened meaning v m sound billed))
@@ -50,7 +53,8 @@ module _ (meaning : Meaning) (v : View) (m : ℕ) (sound : Sound meaning v) (bil
       ∙ cond-false _ _ _ (not_from_true _ billed.1))
 
   -- a month that is answered not to be due can be priced, and its sums are the amounts
-  pub not_due : answer meaning (asks (whether_due m)) v ≡ Ok false → amounts_in (month_outcome meaning v m) ≡ sums_of v m
+  pub not_due : answer meaning (asks (whether_due m)) v ≡ Ok false
+      → amounts_in (month_outcome meaning v m) ≡ sums_of v m
   unfolding altered_line
   not_due e =
       elim (cases_Bool (is_fault (month_outcome meaning v m))) [
@@ -67,7 +71,8 @@ some_is (Some x) e = (x, refl)
 some_is None e = let never : ◌≡◌ {A = ℕ} 0 1 = cc in let none : ⊥ = omega arith in elim none [ ]
 
 -- whether some line differs
-differs : (n : ℕ) (amounts so_far : List ℤ) → length amounts ≡ n → length so_far ≡ n → Decides (is_some (first_differing amounts so_far)) ((i : ℕ) × (i < n) × (get_or amounts i (pos 0) ≡ get_or so_far i (pos 0) → ⊥))
+differs : (n : ℕ) (amounts so_far : List ℤ) → length amounts ≡ n → length so_far ≡ n
+    → Decides (is_some (first_differing amounts so_far)) ((i : ℕ) × (i < n) × (get_or amounts i (pos 0) ≡ get_or so_far i (pos 0) → ⊥))
 differs n amounts so_far counted summed = (
   λ some.
       let found = some_is (first_differing amounts so_far) some in
@@ -82,7 +87,10 @@ differs n amounts so_far counted summed = (
       ],
 )
 
-pub due_decides : (meaning : Meaning) (v : View) (m : ℕ) (then now : List ℤ) → month_outcome meaning v m ≡ Ok now → ((i : ℕ) → i < line_count → line_sum v.ledger m (i + 1) ≡ get_or then i (pos 0)) → Decides (is_some (altered_line meaning v m)) ((i : ℕ) × (i < line_count) × (get_or now i (pos 0) ≡ get_or then i (pos 0) → ⊥))
+pub due_decides : (meaning : Meaning) (v : View) (m : ℕ) (then now : List ℤ)
+    → month_outcome meaning v m ≡ Ok now
+    → ((i : ℕ) → i < line_count → line_sum v.ledger m (i + 1) ≡ get_or then i (pos 0))
+    → Decides (is_some (altered_line meaning v m)) ((i : ℕ) × (i < line_count) × (get_or now i (pos 0) ≡ get_or then i (pos 0) → ⊥))
 unfolding altered_line
 due_decides meaning v m then now e sums =
     let decided = differs line_count (amounts_in (month_outcome meaning v m)) (sums_of v m) (length_amounts (month_outcome meaning v m) (ap is_fault e)) (length_sums v.ledger m) in

@@ -9,7 +9,8 @@ use Rattle.audit.specs.Runs.{is_accepted, view_after_run, call_entries, run_entr
 use Rattle.audit.proofs.Table.{by_step}
 
 module _ (meaning : Meaning) where
-  after_ledger : (call : Call) (v : View) → (view_after meaning call v).ledger ≡ v.ledger ++ call_entries meaning call v
+  after_ledger : (call : Call) (v : View)
+      → (view_after meaning call v).ledger ≡ v.ledger ++ call_entries meaning call v
   after_ledger (bills m) v = refl
   after_ledger (trues_up m) v = refl
   after_ledger (opens code contract substation carried) v = sym (append-nil v.ledger)
@@ -19,11 +20,13 @@ module _ (meaning : Meaning) where
   after_ledger (finalises m) v = sym (append-nil v.ledger)
   after_ledger (asks question) v = sym (append-nil v.ledger)
 
-  step_ledger : (call : Call) (v : View) → (step meaning call v).ledger ≡ v.ledger ++ cond (is_accepted meaning call v) (call_entries meaning call v) []
+  step_ledger : (call : Call) (v : View)
+      → (step meaning call v).ledger ≡ v.ledger ++ cond (is_accepted meaning call v) (call_entries meaning call v) []
   step_ledger call v =
       by_step meaning call v (λ w taken. w.ledger ≡ v.ledger ++ cond taken (call_entries meaning call v) []) (sym (append-nil v.ledger)) (λ e. after_ledger call v)
 
-  pub run_ledger : (calls : List Call) (v : View) → (view_after_run meaning calls v).ledger ≡ v.ledger ++ run_entries meaning calls v
+  pub run_ledger : (calls : List Call) (v : View)
+      → (view_after_run meaning calls v).ledger ≡ v.ledger ++ run_entries meaning calls v
   run_ledger [] v = sym (append-nil v.ledger)
   run_ledger (call ∷ calls) v =
       let w = step meaning call v in

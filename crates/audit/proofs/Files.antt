@@ -19,7 +19,8 @@ unfolding peak_kva
 peak_kva_from a b e = ap (λ readings. top (map kva_of readings)) e
 
 -- books that agree on a month price it alike, where its days are alike too
-module _ (v : View) (m : ℕ) (w : View) (n : ℕ) (agree : Agree v m w n) (days : (month_at m v).days ≡ (month_at n w).days) where
+module _ (v : View) (m : ℕ) (w : View) (n : ℕ) (agree : Agree v m w n)
+    (days : (month_at m v).days ≡ (month_at n w).days) where
   agreed_facts : facts_of v m ≡ facts_of w n
   unfolding facts_of facts_of_month
   agreed_facts =
@@ -31,7 +32,9 @@ module _ (v : View) (m : ℕ) (w : View) (n : ℕ) (agree : Agree v m w n) (days
   unfolding hour_rows
   agreed_hours = rw (agree.readings, agree.hours, days) refl
 
-  pub agreed : (meaning other : Meaning) → ((facts : PlainFacts) (hours : List HourRow) → meaning facts hours ≡ other facts hours) → month_outcome meaning v m ≡ month_outcome other w n
+  pub agreed : (meaning other : Meaning)
+      → ((facts : PlainFacts) (hours : List HourRow) → meaning facts hours ≡ other facts hours)
+      → month_outcome meaning v m ≡ month_outcome other w n
   unfolding month_outcome
   agreed meaning other alike =
       let same = alike (facts_of w n) (hour_rows (month_at n w)) in
@@ -46,7 +49,8 @@ take_past (x ∷ xs) ys k =
     let one : k + suc (length xs) ≡ suc (k + length xs) = omega arith in
     ap (λ n. take n (x ∷ (xs ++ ys))) one ∙ ap (λ zs. x ∷ zs) (take_past xs ys k)
 
-window : {X : Type 0} (xs ys : List X) (n k : ℕ) → length xs ≡ n → take n (drop k (xs ++ ys)) ≡ drop k (xs ++ take k ys)
+window : {X : Type 0} (xs ys : List X) (n k : ℕ) → length xs ≡ n
+    → take n (drop k (xs ++ ys)) ≡ drop k (xs ++ take k ys)
 window xs ys n k e =
     sym (drop-take k n (xs ++ ys)) ∙ ap (λ j. drop k (take (k + j) (xs ++ ys))) (sym e) ∙ ap (drop k) (take_past xs ys k)
 
@@ -79,6 +83,7 @@ module _ (v : View) (m : ℕ) (w : View) (counted : length v.before ≡ RATCHET)
       })
       spared.days meaning meaning (λ facts hours. refl)
 
-  pub spared_altered : (meaning : Meaning) → sums_of v m ≡ sums_of w m → altered_line meaning v m ≡ altered_line meaning w m
+  pub spared_altered : (meaning : Meaning) → sums_of v m ≡ sums_of w m
+      → altered_line meaning v m ≡ altered_line meaning w m
   unfolding altered_line
   spared_altered meaning e = let p = spared_priced meaning in cc

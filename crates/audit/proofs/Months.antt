@@ -27,32 +27,37 @@ unbilled_unsettled Final e = e
 abbrev pub Shaped : Month → Type 0
 Shaped month = length month.readings ≡ quarters_of month.days
 
-pub fresh_open : (days : ℕ) → (new_month days).state ≡ Open
+pub new_month_open : (days : ℕ) → (new_month days).state ≡ Open
 unfolding new_month
-fresh_open days = refl
+new_month_open days = refl
 
-pub fresh_shaped : (days : ℕ) → Shaped (new_month days)
+pub new_month_shaped : (days : ℕ) → Shaped (new_month days)
 unfolding new_month
-fresh_shaped days = length-replicate (quarters_of days) _
+new_month_shaped days = length-replicate (quarters_of days) _
 
 pub no_month_open : no_month.state ≡ Open
 unfolding no_month
-no_month_open = fresh_open 0
+no_month_open = new_month_open 0
 
 pub no_month_shaped : Shaped no_month
 unfolding no_month
-no_month_shaped = fresh_shaped 0
+no_month_shaped = new_month_shaped 0
 
 -- the month that is altered, and the others
 module _ (months : List Month) (m : ℕ) (alter : Month → Month) (low : 1 ≤ m) where
-  pub altered_here : m ≤ length months → get_or (months_with (month_index m) alter months) (month_index m) no_month ≡ alter (get_or months (month_index m) no_month)
+  pub altered_here : m ≤ length months
+      → get_or (months_with (month_index m) alter months) (month_index m) no_month ≡ alter (get_or months (month_index m) no_month)
   altered_here high = get_or-set_same months (month_index m) (alter (get_or months (month_index m) no_month)) no_month (omega arith)
 
-  pub altered_other : (n : ℕ) → 1 ≤ n → n ≢ m → get_or (months_with (month_index m) alter months) (month_index n) no_month ≡ get_or months (month_index n) no_month
+  pub altered_other : (n : ℕ) → 1 ≤ n → n ≢ m
+      → get_or (months_with (month_index m) alter months) (month_index n) no_month ≡ get_or months (month_index n) no_month
   altered_other n some other =
       get_or-set_other months (month_index m) (month_index n) (alter (get_or months (month_index m) no_month)) no_month (λ e. other (omega arith))
 
-  pub altered_at : m ≤ length months → (n : ℕ) → 1 ≤ n → (P : Month → Type 0) → (n ≡ m → P (alter (get_or months (month_index m) no_month))) → (n ≢ m → P (get_or months (month_index n) no_month)) → P (get_or (months_with (month_index m) alter months) (month_index n) no_month)
+  pub altered_at : m ≤ length months → (n : ℕ) → 1 ≤ n → (P : Month → Type 0)
+      → (n ≡ m → P (alter (get_or months (month_index m) no_month)))
+      → (n ≢ m → P (get_or months (month_index n) no_month))
+      → P (get_or (months_with (month_index m) alter months) (month_index n) no_month)
   altered_at high n some P here there =
       elim (cases_eq n m) [
         | inl same ↦ rw same (rw (altered_here high) (here same))
@@ -60,7 +65,8 @@ module _ (months : List Month) (m : ℕ) (alter : Month → Month) (low : 1 ≤ 
       ]
 
 -- one more month alters no other place
-pub pushed_other : (months : List Month) (new : Month) (k : ℕ) → k ≢ length months → get_or (months ++ new ∷ []) k no_month ≡ get_or months k no_month
+pub pushed_other : (months : List Month) (new : Month) (k : ℕ) → k ≢ length months
+    → get_or (months ++ new ∷ []) k no_month ≡ get_or months k no_month
 pushed_other months new k other =
     elim (cases_lt k (length months)) [
       | inl before ↦ get_or_append_left months (new ∷ []) no_month k before
@@ -70,13 +76,14 @@ pushed_other months new k other =
     ]
 
 -- it is open, and so was its place
-pub pushed_state : (months : List Month) (days k : ℕ) → (get_or (months ++ new_month days ∷ []) k no_month).state ≡ (get_or months k no_month).state
+pub pushed_state : (months : List Month) (days k : ℕ)
+    → (get_or (months ++ new_month days ∷ []) k no_month).state ≡ (get_or months k no_month).state
 pushed_state months days k =
     elim (cases_eq k (length months)) [
       | inl here ↦
           let new = get_or_push months (new_month days) no_month k (sym here) in
           let none = get_or_past months k no_month (omega arith) in
-          ap (λ month. month.state) new ∙ fresh_open days ∙ sym (ap (λ month. month.state) none ∙ no_month_open)
+          ap (λ month. month.state) new ∙ new_month_open days ∙ sym (ap (λ month. month.state) none ∙ no_month_open)
       | inr other ↦ ap (λ month. month.state) (pushed_other months (new_month days) k other)
     ]
 
@@ -110,7 +117,9 @@ day_fills day readings = record {
 }
 
 -- where no earlier month is short of a state, each has reached it
-pub none_short : (state : State) (v : View) (m n : ℕ) → month_index m ≤ first_short state v.months (month_index m) → 1 ≤ n → n < m → month_has_reached state n v ≡ true
+pub none_short : (state : State) (v : View) (m n : ℕ)
+    → month_index m ≤ first_short state v.months (month_index m) → 1 ≤ n → n < m
+    → month_has_reached state n v ≡ true
 none_short state v m n all low before =
     let passes = prefix_len_passes (λ month. has_reached state month.state) (take (month_index m) v.months) (month_index n) no_month (omega arith) in
     let same = get_or-take (month_index m) v.months (month_index n) no_month (omega arith) in

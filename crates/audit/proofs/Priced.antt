@@ -27,7 +27,8 @@ unfolding amounts_in
 length_amounts (Ok cents) e = length-map-range_with_len (λ i. get_or cents i (pos 0)) 0 line_count
 length_amounts (Err fault) e = cc
 
-pub amounts_line : (outcome : Outcome) (cents : List ℤ) (i : ℕ) → outcome ≡ Ok cents → i < line_count → get_or (amounts_in outcome) i (pos 0) ≡ get_or cents i (pos 0)
+pub amounts_line : (outcome : Outcome) (cents : List ℤ) (i : ℕ) → outcome ≡ Ok cents → i < line_count
+    → get_or (amounts_in outcome) i (pos 0) ≡ get_or cents i (pos 0)
 unfolding amounts_in
 amounts_line outcome cents i e here =
     ap (λ o. get_or (amounts_in o) i (pos 0)) e ∙ get_or-map-range_with_len (λ i. get_or cents i (pos 0)) 0 line_count i i (pos 0) here (omega arith)
@@ -48,7 +49,8 @@ pub record Unpriced (v : View) (m : ℕ) (w : View) : Type 0 where
   pub sums : (l : ℕ) → line_sum w.ledger m l ≡ line_sum v.ledger m l
 
 module _ (meaning : Meaning) (m : ℕ) (v : View) where
-  bill_stands : Sound meaning v → refusal_of meaning (bills m) v ≡ None → Stands meaning v m (view_after meaning (bills m) v)
+  bill_stands : Sound meaning v → refusal_of meaning (bills m) v ≡ None
+      → Stands meaning v m (view_after meaning (bills m) v)
   bill_stands sound e =
       let h = billing meaning v m e in
       let found = priced_at (month_outcome meaning v m) h.prices in
@@ -62,7 +64,8 @@ module _ (meaning : Meaning) (m : ℕ) (v : View) where
             omega (arith, ints);
       }
 
-  true_up_stands : refusal_of meaning (trues_up m) v ≡ None → Stands meaning v m (view_after meaning (trues_up m) v)
+  true_up_stands : refusal_of meaning (trues_up m) v ≡ None
+      → Stands meaning v m (view_after meaning (trues_up m) v)
   true_up_stands e =
       let h = truing meaning v m e in
       let found = priced_at (month_outcome meaning v m) h.prices in
@@ -85,7 +88,8 @@ if_taken : (b : Bool) (P Q : Type 0) → (b ≡ true → P) → (b ≡ false →
 if_taken true P Q p q = p refl
 if_taken false P Q p q = q refl
 
-posted_unpriced : (meaning : Meaning) (n : ℕ) (v : View) → Posting meaning v n → (alter : Month → Month) → Fills alter → (m : ℕ) → 1 ≤ m → Unpriced v m (with_month n alter v)
+posted_unpriced : (meaning : Meaning) (n : ℕ) (v : View) → Posting meaning v n → (alter : Month → Month)
+    → Fills alter → (m : ℕ) → 1 ≤ m → Unpriced v m (with_month n alter v)
 posted_unpriced meaning n v h alter fills m low = record {
   billed =
       altered_at v.months n alter h.names.low h.names.high m low (λ month. has_reached Billed month.state ≡ true → month_has_reached Billed m v ≡ true)
@@ -94,7 +98,9 @@ posted_unpriced meaning n v h alter fills m low = record {
   sums = λ l. refl;
 }
 
-priced_after : (meaning : Meaning) (call : Call) (m : ℕ) (v : View) → Sound meaning v → 1 ≤ m → refusal_of meaning call v ≡ None → MatchBool (is_pricing_of m call && true) (Stands meaning v m (view_after meaning call v)) (Unpriced v m (view_after meaning call v))
+priced_after : (meaning : Meaning) (call : Call) (m : ℕ) (v : View) → Sound meaning v → 1 ≤ m
+    → refusal_of meaning call v ≡ None
+    → MatchBool (is_pricing_of m call && true) (Stands meaning v m (view_after meaning call v)) (Unpriced v m (view_after meaning call v))
 priced_after meaning (opens code contract substation carried) m v sound low e = record { billed = λ h. h; sums = λ l. refl }
 priced_after meaning (starts days) m v sound low e =
     record { billed = λ h. sym (ap (has_reached Billed) (pushed_state v.months days (m - 1))) ∙ h; sums = λ l. refl }
@@ -129,7 +135,8 @@ priced_after meaning (finalises n) m v sound low e =
     }
 priced_after meaning (asks question) m v sound low e = record { billed = λ h. h; sums = λ l. refl }
 
-priced_step : (meaning : Meaning) (call : Call) (m : ℕ) (v : View) → Sound meaning v → 1 ≤ m → MatchBool (is_pricing_of m call && is_accepted meaning call v) (Stands meaning v m (step meaning call v)) (Unpriced v m (step meaning call v))
+priced_step : (meaning : Meaning) (call : Call) (m : ℕ) (v : View) → Sound meaning v → 1 ≤ m
+    → MatchBool (is_pricing_of m call && is_accepted meaning call v) (Stands meaning v m (step meaning call v)) (Unpriced v m (step meaning call v))
 priced_step meaning call m v sound low =
     by_step meaning call v (λ w taken. MatchBool (is_pricing_of m call && taken) (Stands meaning v m w) (Unpriced v m w))
     (never_taken (is_pricing_of m call) (Stands meaning v m v) (Unpriced v m v) (unmoved meaning m v))
@@ -140,14 +147,17 @@ abbrev Upheld : Meaning → View → ℕ → View → Option View → Type 0
 Upheld meaning v m w (Some u) = Stands meaning u m w
 Upheld meaning v m w None = Unpriced v m w
 
-upheld_more : (meaning : Meaning) (m : ℕ) (v u w : View) (later : Option View) (b : Bool) → Upheld meaning u m w later → MatchBool b (Stands meaning v m u) (Unpriced v m u) → Upheld meaning v m w (option_or later (cond b (Some v) None))
+upheld_more : (meaning : Meaning) (m : ℕ) (v u w : View) (later : Option View) (b : Bool)
+    → Upheld meaning u m w later → MatchBool b (Stands meaning v m u) (Unpriced v m u)
+    → Upheld meaning v m w (option_or later (cond b (Some v) None))
 upheld_more meaning m v u w (Some stood) b later now = later
 upheld_more meaning m v u w None true later now =
     record { cents = now.cents; amounts = now.amounts; sums = λ i here. later.sums (i + 1) ∙ now.sums i here }
 upheld_more meaning m v u w None false later now =
     record { billed = λ h. now.billed (later.billed h); sums = λ l. later.sums l ∙ now.sums l }
 
-pub upheld : (meaning : Meaning) (calls : List Call) (m : ℕ) (v : View) → Sound meaning v → 1 ≤ m → Upheld meaning v m (view_after_run meaning calls v) (view_at_pricing meaning calls v m)
+pub upheld : (meaning : Meaning) (calls : List Call) (m : ℕ) (v : View) → Sound meaning v → 1 ≤ m
+    → Upheld meaning v m (view_after_run meaning calls v) (view_at_pricing meaning calls v m)
 upheld meaning [] m v sound low = unmoved meaning m v
 upheld meaning (call ∷ calls) m v sound low =
     let u = step meaning call v in
@@ -155,7 +165,10 @@ upheld meaning (call ∷ calls) m v sound low =
     (upheld meaning calls m u (kept meaning call v sound).sound low)
     (priced_step meaning call m v sound low)
 
-latest_from : (meaning : Meaning) (calls : List Call) (m : ℕ) (v w : View) (found : Option View) → view_at_pricing meaning calls v m ≡ found → Upheld meaning v m w found → month_has_reached Billed m v ≡ false → month_has_reached Billed m w ≡ true → (cents : List ℤ) × IsLatestPricing meaning calls v m cents
+latest_from : (meaning : Meaning) (calls : List Call) (m : ℕ) (v w : View) (found : Option View)
+    → view_at_pricing meaning calls v m ≡ found → Upheld meaning v m w found
+    → month_has_reached Billed m v ≡ false → month_has_reached Billed m w ≡ true
+    → (cents : List ℤ) × IsLatestPricing meaning calls v m cents
 latest_from meaning calls m v w (Some u) is held short done = (held.cents, record { stood = u; latest = is; amounts = held.amounts })
 latest_from meaning calls m v w None is held short done =
     let never : false ≡ true = sym short ∙ held.billed done in
@@ -164,12 +177,17 @@ latest_from meaning calls m v w None is held short done =
     elim none [ ]
 
 -- a month that was billed over the run was priced
-pub priced_once : (meaning : Meaning) (calls : List Call) (m : ℕ) (v : View) → Sound meaning v → 1 ≤ m → month_has_reached Billed m v ≡ false → month_has_reached Billed m (view_after_run meaning calls v) ≡ true → (cents : List ℤ) × IsLatestPricing meaning calls v m cents
+pub priced_once : (meaning : Meaning) (calls : List Call) (m : ℕ) (v : View) → Sound meaning v → 1 ≤ m
+    → month_has_reached Billed m v ≡ false
+    → month_has_reached Billed m (view_after_run meaning calls v) ≡ true
+    → (cents : List ℤ) × IsLatestPricing meaning calls v m cents
 priced_once meaning calls m v sound low short done =
     latest_from meaning calls m v (view_after_run meaning calls v) (view_at_pricing meaning calls v m) refl (upheld meaning calls m v sound low) short done
 
 -- and its entries add up to that
-pub latest_sums : (meaning : Meaning) (calls : List Call) (m : ℕ) (v : View) → Sound meaning v → 1 ≤ m → (cents : List ℤ) → IsLatestPricing meaning calls v m cents → (i : ℕ) → i < line_count → line_sum (view_after_run meaning calls v).ledger m (i + 1) ≡ get_or cents i (pos 0)
+pub latest_sums : (meaning : Meaning) (calls : List Call) (m : ℕ) (v : View) → Sound meaning v → 1 ≤ m
+    → (cents : List ℤ) → IsLatestPricing meaning calls v m cents → (i : ℕ) → i < line_count
+    → line_sum (view_after_run meaning calls v).ledger m (i + 1) ≡ get_or cents i (pos 0)
 latest_sums meaning calls m v sound low cents latest i here =
     let stands : Stands meaning latest.stood m (view_after_run meaning calls v) = rw latest.latest at (upheld meaning calls m v sound low) in
     let same : stands.cents ≡ cents = cc (stands.amounts, latest.amounts) in

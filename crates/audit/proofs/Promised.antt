@@ -35,27 +35,36 @@ module _ (meaning : Meaning) (run : Run) (m : ℕ) (billed : IsBilled m (book_af
       priced_once meaning run.calls m (new_book run) (begun_sound meaning run) (month_there m (book_after meaning run) billed.0).0
       (ap (has_reached Billed) no_month_open) billed.1
 
-  sums : (cents : List ℤ) → IsLatestPricing meaning run.calls (new_book run) m cents → (i : ℕ) → i < line_count → line_sum (book_after meaning run).ledger m (i + 1) ≡ get_or cents i (pos 0)
+  sums : (cents : List ℤ) → IsLatestPricing meaning run.calls (new_book run) m cents → (i : ℕ)
+      → i < line_count → line_sum (book_after meaning run).ledger m (i + 1) ≡ get_or cents i (pos 0)
   sums = latest_sums meaning run.calls m (new_book run) (begun_sound meaning run) (month_there m (book_after meaning run) billed.0).0
 
 -- a line of a month that is not due is what the month is priced at now
-current : (meaning : Meaning) (v : View) (m : ℕ) → Sound meaning v → IsBilled m v → answer meaning (asks (whether_due m)) v ≡ Ok false → (i : ℕ) → i < line_count → line_sum v.ledger m (i + 1) ≡ get_or (amounts_in (month_outcome meaning v m)) i (pos 0)
+current : (meaning : Meaning) (v : View) (m : ℕ) → Sound meaning v → IsBilled m v
+    → answer meaning (asks (whether_due m)) v ≡ Ok false → (i : ℕ) → i < line_count
+    → line_sum v.ledger m (i + 1) ≡ get_or (amounts_in (month_outcome meaning v m)) i (pos 0)
 current meaning v m sound billed answers i here =
     sym (get_or_sums v.ledger m i here) ∙ ap (λ xs. get_or xs i (pos 0)) (sym (not_due meaning v m sound billed answers))
 
 -- as many readings are those of as many days
-same_days : (meaning other : Meaning) (v w : View) (m n : ℕ) → Sound meaning v → Sound other w → 1 ≤ m → 1 ≤ n → (month_at m v).readings ≡ (month_at n w).readings → (month_at m v).days ≡ (month_at n w).days
+same_days : (meaning other : Meaning) (v w : View) (m n : ℕ) → Sound meaning v → Sound other w → 1 ≤ m → 1 ≤ n
+    → (month_at m v).readings ≡ (month_at n w).readings → (month_at m v).days ≡ (month_at n w).days
 same_days meaning other v w m n one two low some same =
     omega (arith, one.shaped m low, two.shaped n some, ap length same)
 
-alike : (meaning other : Meaning) → ((facts : PlainFacts) (hours : List HourRow) → meaning facts hours ≡ other facts hours) → (v w : View) (m n : ℕ) → Sound meaning v → Sound other w → IsBilled m v → IsBilled n w → Agree v m w n → answer meaning (asks (whether_due m)) v ≡ Ok false → answer other (asks (whether_due n)) w ≡ Ok false → (i : ℕ) → i < line_count → line_sum v.ledger m (i + 1) ≡ line_sum w.ledger n (i + 1)
+alike : (meaning other : Meaning)
+    → ((facts : PlainFacts) (hours : List HourRow) → meaning facts hours ≡ other facts hours)
+    → (v w : View) (m n : ℕ) → Sound meaning v → Sound other w → IsBilled m v → IsBilled n w → Agree v m w n
+    → answer meaning (asks (whether_due m)) v ≡ Ok false → answer other (asks (whether_due n)) w ≡ Ok false
+    → (i : ℕ) → i < line_count → line_sum v.ledger m (i + 1) ≡ line_sum w.ledger n (i + 1)
 alike meaning other same v w m n one two billed billed' agree answers answers' i here =
     let days = same_days meaning other v w m n one two (month_there m v billed.0).0 (month_there n w billed'.0).0 agree.readings in
     current meaning v m one billed answers i here
     ∙ ap (λ outcome. get_or (amounts_in outcome) i (pos 0)) (agreed v m w n agree days meaning other same)
     ∙ sym (current other w n two billed' answers' i here)
 
-final : (meaning : Meaning) (v : View) (m : ℕ) → Sound meaning v → IsFinal m v → (more : List Call) → IsFinal m (view_after_run meaning more v) × (answer meaning (asks (whether_due m)) (view_after_run meaning more v) ≡ Ok false) × ((l : ℕ) → line_sum (view_after_run meaning more v).ledger m l ≡ line_sum v.ledger m l)
+final : (meaning : Meaning) (v : View) (m : ℕ) → Sound meaning v → IsFinal m v → (more : List Call)
+    → IsFinal m (view_after_run meaning more v) × (answer meaning (asks (whether_due m)) (view_after_run meaning more v) ≡ Ok false) × ((l : ℕ) → line_sum (view_after_run meaning more v).ledger m l ≡ line_sum v.ledger m l)
 final meaning v m sound is more =
     let low : 1 ≤ m = (month_there m v is.0).0 in
     let w = view_after_run meaning more v in

@@ -20,7 +20,7 @@ use Rattle.tariff.specs.Limits.{line_count}
 use Rattle.tariff.specs.Pricing.{Meaning}
 use Rattle.audit.specs.Runs.{view_after_run}
 use Rattle.audit.proofs.Files.{Spared, spared_altered, spared_priced}
-use Rattle.audit.proofs.Months.{Shaped, altered_here, altered_other, billed_there, final_billed, fresh_shaped, no_month_open, no_month_shaped, none_short, Fills, post_fills, day_fills, pushed_other, pushed_state, unbilled_unsettled}
+use Rattle.audit.proofs.Months.{Shaped, altered_here, altered_other, billed_there, final_billed, new_month_shaped, no_month_open, no_month_shaped, none_short, Fills, post_fills, day_fills, pushed_other, pushed_state, unbilled_unsettled}
 use Rattle.audit.proofs.Table.{billing, by_step, finalising, Posting, opening, posting, posting_day, starting, truing}
 
 -- a month that was made final: so are all before it, it can be priced, and pricing it alters nothing
@@ -41,25 +41,31 @@ pub record Sound (meaning : Meaning) (v : View) : Type 0 where
 -- what a call leaves: a sound book, whose final months are as they were
 pub record Kept (meaning : Meaning) (v w : View) : Type 0 where
   pub sound : Sound meaning w
-  pub final : (m : ℕ) → 1 ≤ m → month_has_reached Final m v ≡ true → (month_has_reached Final m w ≡ true) × ((l : ℕ) → line_sum w.ledger m l ≡ line_sum v.ledger m l)
+  pub final : (m : ℕ) → 1 ≤ m → month_has_reached Final m v ≡ true
+      → (month_has_reached Final m w ≡ true) × ((l : ℕ) → line_sum w.ledger m l ≡ line_sum v.ledger m l)
 
 absurd : {X : Type 0} (b : Bool) → b ≡ false → b ≡ true → X
 absurd b short done = elim (both_ways b short done) [ ]
 
-pub sums_from : (one two : List Entry) (m : ℕ) → ((l : ℕ) → line_sum one m l ≡ line_sum two m l) → sums one m ≡ sums two m
+pub sums_from : (one two : List Entry) (m : ℕ) → ((l : ℕ) → line_sum one m l ≡ line_sum two m l)
+    → sums one m ≡ sums two m
 sums_from one two m same =
     ext_get_or (pos 0) (sums one m) (sums two m) (length_sums one m ∙ sym (length_sums two m))
     (λ i here.
     let few : i < line_count = omega (arith, length_sums one m) in
     get_or_sums one m i few ∙ same (i + 1) ∙ sym (get_or_sums two m i few))
 
-pub written_elsewhere : (kind : EntryKind) (ledger : List Entry) (m : ℕ) (cents : List ℤ) (n l : ℕ) → n ≢ m → line_sum (ledger ++ entries_for kind m cents) n l ≡ line_sum ledger n l
+pub written_elsewhere : (kind : EntryKind) (ledger : List Entry) (m : ℕ) (cents : List ℤ) (n l : ℕ) → n ≢ m
+    → line_sum (ledger ++ entries_for kind m cents) n l ≡ line_sum ledger n l
 written_elsewhere kind ledger m cents n l other =
     let both = line_sum_append ledger (entries_for kind m cents) n l in
     let none = entries_other_month kind m 1 cents n l other in
     omega (arith, ints)
 
-settled_still : (meaning : Meaning) (v w : View) (m : ℕ) → length v.before ≡ RATCHET → Spared v m w → ((l : ℕ) → line_sum w.ledger m l ≡ line_sum v.ledger m l) → ((n : ℕ) → 1 ≤ n → n < m → month_has_reached Final n v ≡ true → month_has_reached Final n w ≡ true) → Settled meaning v m → Settled meaning w m
+settled_still : (meaning : Meaning) (v w : View) (m : ℕ) → length v.before ≡ RATCHET → Spared v m w
+    → ((l : ℕ) → line_sum w.ledger m l ≡ line_sum v.ledger m l)
+    → ((n : ℕ) → 1 ≤ n → n < m → month_has_reached Final n v ≡ true → month_has_reached Final n w ≡ true)
+    → Settled meaning v m → Settled meaning w m
 settled_still meaning v w m counted spared same before settled = record {
   earlier = λ n low here. before n low here (settled.earlier n low here);
   prices = ap is_fault (sym (spared_priced v m w counted spared meaning)) ∙ settled.prices;
@@ -75,7 +81,8 @@ record Touches (m : ℕ) (v w : View) : Type 0 where
   others : (n : ℕ) → 1 ≤ n → n ≢ m → month_at n w ≡ month_at n v
   sums : (n l : ℕ) → n ≢ m → line_sum w.ledger n l ≡ line_sum v.ledger n l
 
-module _ (v : View) (m : ℕ) (low : 1 ≤ m) (ledger : List Entry) (same : (n l : ℕ) → n ≢ m → line_sum ledger n l ≡ line_sum v.ledger n l) where
+module _ (v : View) (m : ℕ) (low : 1 ≤ m) (ledger : List Entry)
+    (same : (n l : ℕ) → n ≢ m → line_sum ledger n l ≡ line_sum v.ledger n l) where
   touches_month : (alter : Month → Month) → Touches m v (with_month m alter (record v { ledger = ledger }))
   touches_month alter = record {
     point = refl;
@@ -88,10 +95,12 @@ module _ (v : View) (m : ℕ) (low : 1 ≤ m) (ledger : List Entry) (same : (n l
   touches_ledger : Touches m v (record v { ledger = ledger })
   touches_ledger = record { point = refl; before = refl; earlier = λ k here. refl; others = λ n some other. refl; sums = same }
 
-peaks_from : (v w : View) (k : ℕ) → take k v.months ≡ take k w.months → take k (map peak v.months) ≡ take k (map peak w.months)
+peaks_from : (v w : View) (k : ℕ) → take k v.months ≡ take k w.months
+    → take k (map peak v.months) ≡ take k (map peak w.months)
 peaks_from v w k e = take-map peak k v.months ∙ ap (map peak) e ∙ sym (take-map peak k w.months)
 
-module _ (meaning : Meaning) (v : View) (sound : Sound meaning v) (opened : is_some v.point ≡ true) (m : ℕ) (low : 1 ≤ m) (unsettled : month_has_reached Final m v ≡ false) (w : View) (touches : Touches m v w) where
+module _ (meaning : Meaning) (v : View) (sound : Sound meaning v) (opened : is_some v.point ≡ true) (m : ℕ)
+    (low : 1 ≤ m) (unsettled : month_has_reached Final m v ≡ false) (w : View) (touches : Touches m v w) where
   final_other : (n : ℕ) → month_has_reached Final n v ≡ true → n ≢ m
   final_other n final same = absurd (month_has_reached Final m v) unsettled (rw same at final)
 
@@ -123,7 +132,9 @@ module _ (meaning : Meaning) (v : View) (sound : Sound meaning v) (opened : is_s
       (λ k one here done. sym (others_final k one (λ e. omega arith)) ∙ done)
       settled
 
-  touched : Shaped (month_at m w) → ((l : ℕ) → month_has_reached Billed m w ≡ false → line_sum w.ledger m l ≡ pos 0) → (month_has_reached Final m w ≡ true → Settled meaning w m) → Kept meaning v w
+  touched : Shaped (month_at m w)
+      → ((l : ℕ) → month_has_reached Billed m w ≡ false → line_sum w.ledger m l ≡ pos 0)
+      → (month_has_reached Final m w ≡ true → Settled meaning w m) → Kept meaning v w
   touched shaped unbilled settled = record {
     sound = record {
       counted = ap length (sym touches.before) ∙ sound.counted;
@@ -153,17 +164,19 @@ module _ (meaning : Meaning) (v : View) (sound : Sound meaning v) (opened : is_s
 unmoved : (meaning : Meaning) (v : View) → Sound meaning v → Kept meaning v v
 unmoved meaning v sound = record { sound = sound; final = λ m low final. (final, λ l. refl) }
 
-length_aged : (carried : List ℕ) → length (earlier_peaks carried) ≡ RATCHET
+length_earlier_peaks : (carried : List ℕ) → length (earlier_peaks carried) ≡ RATCHET
 unfolding earlier_peaks
-length_aged carried = length-map-range_with_len (λ i. get_or carried (RATCHET - 1 - i) 0) 0 RATCHET
+length_earlier_peaks carried = length-map-range_with_len (λ i. get_or carried (RATCHET - 1 - i) 0) 0 RATCHET
 
 none_final : (v : View) (m : ℕ) → 1 ≤ m → v.months ≡ [] → month_has_reached Final m v ≡ true → ⊥
 none_final v m low none final = omega (arith, billed_there v m low (final_billed (month_at m v).state final), ap length none)
 
-opened_kept : (meaning : Meaning) (v : View) → Sound meaning v → (code : List ℕ) (contract substation : ℕ) (carried : List ℕ) → v.months ≡ [] → Kept meaning v (view_after meaning (opens code contract substation carried) v)
+opened_kept : (meaning : Meaning) (v : View) → Sound meaning v
+    → (code : List ℕ) (contract substation : ℕ) (carried : List ℕ) → v.months ≡ []
+    → Kept meaning v (view_after meaning (opens code contract substation carried) v)
 opened_kept meaning v sound code contract substation carried none = record {
   sound = record {
-    counted = length_aged carried;
+    counted = length_earlier_peaks carried;
     empty = λ blank. none;
     shaped = sound.shaped;
     unbilled = sound.unbilled;
@@ -173,7 +186,8 @@ opened_kept meaning v sound code contract substation carried none = record {
 }
 
 -- a month that is started touches its place alone
-started_kept : (meaning : Meaning) (v : View) → Sound meaning v → is_some v.point ≡ true → (days m : ℕ) → 1 ≤ m → month_index m ≡ length v.months → Kept meaning v (view_after meaning (starts days) v)
+started_kept : (meaning : Meaning) (v : View) → Sound meaning v → is_some v.point ≡ true → (days m : ℕ)
+    → 1 ≤ m → month_index m ≡ length v.months → Kept meaning v (view_after meaning (starts days) v)
 started_kept meaning v sound opened days m low new =
     let was = ap (λ month. month.state) (get_or_past v.months (month_index m) no_month (omega arith)) ∙ no_month_open in
     let state = pushed_state v.months days (month_index m) ∙ was in
@@ -185,11 +199,12 @@ started_kept meaning v sound opened days m low new =
       others = λ n some other. pushed_other v.months (new_month days) (month_index n) (λ e. other (omega arith));
       sums = λ n l other. refl;
     })
-    (rw (get_or_push v.months (new_month days) no_month (month_index m) (sym new)) (fresh_shaped days))
+    (rw (get_or_push v.months (new_month days) no_month (month_index m) (sym new)) (new_month_shaped days))
     (λ l short. sound.unbilled m l low (ap (has_reached Billed) was))
     (λ final. absurd (month_has_reached Final m (view_after meaning (starts days) v)) (ap (has_reached Final) state) final)
 
-posted_kept : (meaning : Meaning) (v : View) → Sound meaning v → (m : ℕ) → Posting meaning v m → (alter : Month → Month) → Fills alter → Kept meaning v (with_month m alter v)
+posted_kept : (meaning : Meaning) (v : View) → Sound meaning v → (m : ℕ) → Posting meaning v m
+    → (alter : Month → Month) → Fills alter → Kept meaning v (with_month m alter v)
 posted_kept meaning v sound m h alter fills =
     let low : 1 ≤ m = h.names.low in
     let month = altered_here v.months m alter low h.names.high in
@@ -204,7 +219,8 @@ pub none_some : {X : Type 0} (o : Option X) → is_some o ≡ false → o ≡ No
 none_some None e = refl
 none_some (Some x) e = cc
 
-pub kept_after : (meaning : Meaning) (call : Call) (v : View) → Sound meaning v → refusal_of meaning call v ≡ None → Kept meaning v (view_after meaning call v)
+pub kept_after : (meaning : Meaning) (call : Call) (v : View) → Sound meaning v
+    → refusal_of meaning call v ≡ None → Kept meaning v (view_after meaning call v)
 kept_after meaning (opens code contract substation carried) v sound e =
     opened_kept meaning v sound code contract substation carried (sound.empty (opening meaning v code contract substation carried e))
 kept_after meaning (starts days) v sound e = started_kept meaning v sound (starting meaning v days e) days (length v.months + 1) (omega arith) (omega arith)
@@ -254,12 +270,14 @@ kept_after meaning (finalises m) v sound e =
     })
 kept_after meaning (asks question) v sound e = unmoved meaning v sound
 
-pub kept : (meaning : Meaning) (call : Call) (v : View) → Sound meaning v → Kept meaning v (step meaning call v)
+pub kept : (meaning : Meaning) (call : Call) (v : View) → Sound meaning v
+    → Kept meaning v (step meaning call v)
 kept meaning call v sound =
     by_step meaning call v (λ w taken. Kept meaning v w) (unmoved meaning v sound) (kept_after meaning call v sound)
 
 -- over a run
-pub runs_kept : (meaning : Meaning) (calls : List Call) (v : View) → Sound meaning v → Kept meaning v (view_after_run meaning calls v)
+pub runs_kept : (meaning : Meaning) (calls : List Call) (v : View) → Sound meaning v
+    → Kept meaning v (view_after_run meaning calls v)
 runs_kept meaning [] v sound = unmoved meaning v sound
 runs_kept meaning (call ∷ calls) v sound =
     let once = kept meaning call v sound in
@@ -274,7 +292,7 @@ runs_kept meaning (call ∷ calls) v sound =
 
 pub blank_sound : (meaning : Meaning) (capacity room : ℕ) → Sound meaning (blank capacity room)
 blank_sound meaning capacity room = record {
-  counted = length_aged [];
+  counted = length_earlier_peaks [];
   empty = λ blank. refl;
   shaped = λ m low. no_month_shaped;
   unbilled = λ m l low short. line_sum_none m l;

@@ -14,7 +14,8 @@ use Rattle.tariff.specs.Pricing.{Meaning}
 use Rattle.tariff.specs.declared.refusal.Refusal.{Refusal}
 use Rattle.audit.specs.Runs.{is_accepted}
 
-row_passed : (holds : Bool) (refusal : Refusal) (rest : Option Refusal) → cond holds (Some refusal) rest ≡ None → (holds ≡ false) × (rest ≡ None)
+row_passed : (holds : Bool) (refusal : Refusal) (rest : Option Refusal)
+    → cond holds (Some refusal) rest ≡ None → (holds ≡ false) × (rest ≡ None)
 row_passed true refusal rest e = (cc, cc)
 row_passed false refusal rest e = (refl, e)
 
@@ -22,11 +23,14 @@ none_holds : (rows : List Row) → first_holding rows ≡ None → AllByRecursio
 none_holds [] e = tt
 none_holds (r ∷ rs) e = let passed = row_passed r.holds r.refusal (first_holding rs) e in (passed.0, none_holds rs passed.1)
 
-taken_or_not : (o : Option Refusal) (made v : View) (P : View → Bool → Type 0) → P v false → (o ≡ None → P made true) → P (view_unless o made v) (not (is_some o))
+taken_or_not : (o : Option Refusal) (made v : View) (P : View → Bool → Type 0) → P v false
+    → (o ≡ None → P made true) → P (view_unless o made v) (not (is_some o))
 taken_or_not None made v P kept moved = moved refl
 taken_or_not (Some refusal) made v P kept moved = kept
 
-pub by_step : (meaning : Meaning) (call : Call) (v : View) (P : View → Bool → Type 0) → P v false → (refusal_of meaning call v ≡ None → P (view_after meaning call v) true) → P (step meaning call v) (is_accepted meaning call v)
+pub by_step : (meaning : Meaning) (call : Call) (v : View) (P : View → Bool → Type 0) → P v false
+    → (refusal_of meaning call v ≡ None → P (view_after meaning call v) true)
+    → P (step meaning call v) (is_accepted meaning call v)
 by_step meaning call v = taken_or_not (refusal_of meaning call v) (view_after meaning call v) v
 
 -- a month that was started, by its number
@@ -48,7 +52,8 @@ names m v opened e =
 
 -- what the rows of the calls say where none holds
 module _ (meaning : Meaning) (v : View) where
-  pub opening : (code : List ℕ) (contract substation : ℕ) (carried : List ℕ) → refusal_of meaning (opens code contract substation carried) v ≡ None → is_some v.point ≡ false
+  pub opening : (code : List ℕ) (contract substation : ℕ) (carried : List ℕ)
+      → refusal_of meaning (opens code contract substation carried) v ≡ None → is_some v.point ≡ false
   opening code contract substation carried e = (none_holds (rows meaning (opens code contract substation carried) v) e).0
 
   pub starting : (days : ℕ) → refusal_of meaning (starts days) v ≡ None → is_some v.point ≡ true
@@ -63,7 +68,8 @@ module _ (meaning : Meaning) (v : View) where
       let h = none_holds (rows meaning (posts m place post) v) e in
       record { names = names m v h.0 h.1.0; unsettled = h.1.1.0 }
 
-  pub posting_day : (m day : ℕ) (code : List ℕ) (readings : List Reading) → refusal_of meaning (posts_day m day code readings) v ≡ None → Posting m
+  pub posting_day : (m day : ℕ) (code : List ℕ) (readings : List Reading)
+      → refusal_of meaning (posts_day m day code readings) v ≡ None → Posting m
   posting_day m day code readings e =
       let h = none_holds (rows meaning (posts_day m day code readings) v) e in
       record { names = names m v h.0 h.1.0; unsettled = h.1.1.0 }

@@ -1,5 +1,5 @@
 -- What holds of a book whatever calls an analyst chooses, as laws over runs.
-use Rattle.std.specs.Prelude.{◌≡◌, ℕ, ◌+◌, ◌<◌, Bool, true, false, List, ℤ, pos, Some, Ok, Err, Decides, ◌≢◌, slice_index_or}
+use Rattle.std.specs.Prelude.{◌≡◌, ℕ, ◌+◌, ◌<◌, Bool, true, false, List, ℤ, pos, Some, Ok, Err, IsTrue, ◌↔◌, ◌≢◌, slice_index_or}
 use Rattle.book.specs.Calls.{Call, asks, whether_due, line_total}
 use Rattle.book.specs.Steps.{answer}
 use Rattle.book.specs.Views.{View, blank, contract_of, facts_of, month_has_reached, is_month, month_at, month_outcome, substation_of}
@@ -20,12 +20,14 @@ IsBilled m v = (is_month m v ≡ true) × (month_has_reached Billed m v ≡ true
 abbrev pub IsFinal : ℕ → View → Type 0
 IsFinal m v = (is_month m v ≡ true) × (month_has_reached Final m v ≡ true)
 
--- line i of a statement, from 0
+-- the amount of line i, from 0
 abbrev line : List ℤ → ℕ → ℤ
 line cents i = slice_index_or cents i (pos 0)
 
--- what the month was priced at by its latest accepted bill or true-up of a run from v on: the file as it stood then, and what the schedule made of it
-pub record IsLatestPricing (meaning : Meaning) (calls : List Call) (v : View) (m : ℕ) (cents : List ℤ) : Type 0 where
+-- what the month was priced at by its latest accepted bill or true-up of a run from v on: the file as it
+-- stood then, and what the schedule made of it
+pub record IsLatestPricing (meaning : Meaning) (calls : List Call) (v : View) (m : ℕ)
+    (cents : List ℤ) : Type 0 where
   pub stood : View
   pub latest : view_at_pricing meaning calls v m ≡ Some stood
   pub amounts : month_outcome meaning stood m ≡ Ok cents
@@ -53,14 +55,49 @@ book_after meaning run = view_after_run meaning run.calls (new_book run)
 
 pub record Promise (meaning : Meaning) : Type 0 where
   -- the ledger holds the entries that the accepted bills and true-ups so far prescribe, and no others
-  pub ledger : (run : Run) → (book_after meaning run).ledger ≡ run_entries meaning run.calls (new_book run)
-  -- on each line of a billed month the entries add up to what the schedule made of the file as it stood at the latest pricing, and total answers that sum
-  pub sums : (run : Run) (m : ℕ) → IsBilled m (book_after meaning run) → (cents : List ℤ) × IsLatestPricing meaning run.calls (new_book run) m cents × ((i : ℕ) → i < line_count → (line_sum (book_after meaning run).ledger m (i + 1) ≡ line cents i) × (answer meaning (asks (line_total m (i + 1))) (book_after meaning run) ≡ Ok (line cents i)))
+  pub ledger : (run : Run)
+      → (book_after meaning run).ledger ≡ run_entries meaning run.calls (new_book run)
+  -- on each line of a billed month the entries add up to what the schedule made of the file as it stood
+  -- at the latest pricing, and total answers that sum
+  pub sums : (run : Run) (m : ℕ)
+      → IsBilled m (book_after meaning run)
+      → (cents : List ℤ) × IsLatestPricing meaning run.calls (new_book run) m cents
+      × ((i : ℕ) → i < line_count
+      → (line_sum (book_after meaning run).ledger m (i + 1) ≡ line cents i)
+      × (answer meaning (asks (line_total m (i + 1))) (book_after meaning run) ≡ Ok (line cents i)))
   -- of a billed month due says yes exactly when the file would now price differently on some line
-  pub due : (run : Run) (m : ℕ) → IsBilled m (book_after meaning run) → (then now : List ℤ) → IsLatestPricing meaning run.calls (new_book run) m then → month_outcome meaning (book_after meaning run) m ≡ Ok now → (yes : Bool) × (answer meaning (asks (whether_due m)) (book_after meaning run) ≡ Ok yes) × Decides yes ((i : ℕ) × (i < line_count) × (line now i ≢ line then i))
+  pub due : (run : Run) (m : ℕ)
+      → IsBilled m (book_after meaning run)
+      → (then now : List ℤ)
+      → IsLatestPricing meaning run.calls (new_book run) m then
+      → month_outcome meaning (book_after meaning run) m ≡ Ok now
+      → (yes : Bool) × (answer meaning (asks (whether_due m)) (book_after meaning run) ≡ Ok yes)
+      × (IsTrue yes ↔ ((i : ℕ) × (i < line_count) × (line now i ≢ line then i)))
   -- and is refused exactly when the schedule now refuses
-  pub refuses : (run : Run) (m : ℕ) → IsBilled m (book_after meaning run) → (fault : Fault) → month_outcome meaning (book_after meaning run) m ≡ Err fault → answer meaning (asks (whether_due m)) (book_after meaning run) ≡ Err (LinePastLimit m fault)
-  -- nothing else enters a bill: where two books under schedules of one meaning agree, and neither month is due, each line adds up alike
-  pub alike : (other : Meaning) → ((facts : PlainFacts) (hours : List HourRow) → meaning facts hours ≡ other facts hours) → (run run' : Run) (m n : ℕ) → IsBilled m (book_after meaning run) → IsBilled n (book_after other run') → Agree (book_after meaning run) m (book_after other run') n → answer meaning (asks (whether_due m)) (book_after meaning run) ≡ Ok false → answer other (asks (whether_due n)) (book_after other run') ≡ Ok false → (i : ℕ) → i < line_count → line_sum (book_after meaning run).ledger m (i + 1) ≡ line_sum (book_after other run').ledger n (i + 1)
+  pub refuses : (run : Run) (m : ℕ)
+      → IsBilled m (book_after meaning run)
+      → (fault : Fault)
+      → month_outcome meaning (book_after meaning run) m ≡ Err fault
+      → answer meaning (asks (whether_due m)) (book_after meaning run) ≡ Err (LinePastLimit m fault)
+  -- nothing else enters a bill: where two books under schedules of one meaning agree, and neither month
+  -- is due, each line adds up alike
+  pub alike : (other : Meaning)
+      → ((facts : PlainFacts) (hours : List HourRow) → meaning facts hours ≡ other facts hours)
+      → (run run' : Run) (m n : ℕ)
+      → IsBilled m (book_after meaning run)
+      → IsBilled n (book_after other run')
+      → Agree (book_after meaning run) m (book_after other run') n
+      → answer meaning (asks (whether_due m)) (book_after meaning run) ≡ Ok false
+      → answer other (asks (whether_due n)) (book_after other run') ≡ Ok false
+      → (i : ℕ) → i < line_count
+      → line_sum (book_after meaning run).ledger m (i + 1) ≡ line_sum (book_after other run').ledger n (i + 1)
   -- of a final month due says no however the run goes on, and its sums never move
-  pub final : (run : Run) (m : ℕ) → IsFinal m (book_after meaning run) → (more : List Call) → IsFinal m (view_after_run meaning more (book_after meaning run)) × (answer meaning (asks (whether_due m)) (view_after_run meaning more (book_after meaning run)) ≡ Ok false) × ((l : ℕ) → line_sum (view_after_run meaning more (book_after meaning run)).ledger m l ≡ line_sum (book_after meaning run).ledger m l)
+  pub final : (run : Run) (m : ℕ)
+      → IsFinal m (book_after meaning run)
+      → (more : List Call)
+      → IsFinal m (view_after_run meaning more (book_after meaning run))
+      × (answer meaning (asks (whether_due m)) (view_after_run meaning more (book_after meaning run))
+      ≡ Ok false)
+      × ((l : ℕ)
+      → line_sum (view_after_run meaning more (book_after meaning run)).ledger m l
+      ≡ line_sum (book_after meaning run).ledger m l)

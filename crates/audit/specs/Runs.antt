@@ -26,7 +26,8 @@ call_entries meaning _ v = []
 abbrev pub run_entries : Meaning → List Call → View → List Entry
 run_entries meaning [] v = []
 run_entries meaning (call ∷ calls) v =
-    (if is_accepted meaning call v then call_entries meaning call v else []) ++ run_entries meaning calls (step meaning call v)
+    (if is_accepted meaning call v then call_entries meaning call v else [])
+    ++ run_entries meaning calls (step meaning call v)
 
 -- whether a call is a bill or a true-up of the month
 abbrev pub is_pricing_of : ℕ → Call → Bool

@@ -18,9 +18,11 @@ abbrev pub Unbilled : List Month → List Entry → Type 0
 Unbilled months entries =
     (k : ℕ) → has_reached Billed (get_or months k no_month).state ≡ false → (line : ℕ) → line_sum entries (k + 1) line ≡ pos 0
 
-module _ (months : List Month) (entries : List Entry) (unbilled : Unbilled months entries) (at m : ℕ) (is : m ≡ at + 1) (amounts : List ℤ) where
+module _ (months : List Month) (entries : List Entry) (unbilled : Unbilled months entries) (at m : ℕ)
+    (is : m ≡ at + 1) (amounts : List ℤ) where
   -- a first bill writes the amounts themselves
-  pub bill_owed : has_reached Billed (get_or months at no_month).state ≡ false → entries_owed Bill m amounts entries ≡ entries_for Bill m amounts
+  pub bill_owed : has_reached Billed (get_or months at no_month).state ≡ false
+      → entries_owed Bill m amounts entries ≡ entries_for Bill m amounts
   bill_owed opened =
       ap (entries_for Bill m)
       (differences_none amounts (sums entries m)
@@ -32,11 +34,14 @@ module _ (months : List Month) (entries : List Entry) (unbilled : Unbilled month
 
   module _ (counted : length amounts ≡ line_count) where
     -- entries of one month count in no other
-    others : (kind : EntryKind) (months' : List Month) → ((k : ℕ) → has_reached Billed (get_or months' k no_month).state ≡ false → (k ≡ at → ⊥) × (has_reached Billed (get_or months k no_month).state ≡ false)) → Unbilled months' (entries ++ entries_owed kind m amounts entries)
+    others : (kind : EntryKind) (months' : List Month)
+        → ((k : ℕ) → has_reached Billed (get_or months' k no_month).state ≡ false → (k ≡ at → ⊥) × (has_reached Billed (get_or months k no_month).state ≡ false))
+        → Unbilled months' (entries ++ entries_owed kind m amounts entries)
     others kind months' spared k opened line =
         written_other_month kind entries m amounts counted (k + 1) line (λ e. (spared k opened).0 (omega arith)) ∙ unbilled k (spared k opened).1 line
 
-    pub unbilled_billed : at < length months → Unbilled (months_with at (with_state Billed) months) (entries ++ entries_owed Bill m amounts entries)
+    pub unbilled_billed : at < length months
+        → Unbilled (months_with at (with_state Billed) months) (entries ++ entries_owed Bill m amounts entries)
     unbilled_billed there =
         others Bill (months_with at (with_state Billed) months)
         (λ k opened.
@@ -50,7 +55,10 @@ module _ (months : List Month) (entries : List Entry) (unbilled : Unbilled month
               (other, sym (ap (λ month. has_reached Billed month.state) old) ∙ opened)
         ])
 
-    pub unbilled_trued : has_reached Billed (get_or months at no_month).state ≡ true → (r : Result ℕ NoRoom) (old new : Ledger) → entries_of old ≡ entries → OnOk r (entries_of new ≡ entries ++ entries_owed TrueUp m amounts entries) → OnErr r (new ≡ old) → Unbilled months (entries_of new)
+    pub unbilled_trued : has_reached Billed (get_or months at no_month).state ≡ true
+        → (r : Result ℕ NoRoom) (old new : Ledger) → entries_of old ≡ entries
+        → OnOk r (entries_of new ≡ entries ++ entries_owed TrueUp m amounts entries) → OnErr r (new ≡ old)
+        → Unbilled months (entries_of new)
     unbilled_trued billed (Ok count) old new is written _ =
         rw written
         (others TrueUp months
@@ -62,7 +70,8 @@ never_billed : has_reached Billed no_month.state ≡ false
 unfolding no_month new_month
 never_billed = refl
 
-pub unbilled_started : (months : List Month) (entries : List Entry) → Unbilled months entries → (month : Month) → Unbilled (months ++ month ∷ []) entries
+pub unbilled_started : (months : List Month) (entries : List Entry) → Unbilled months entries
+    → (month : Month) → Unbilled (months ++ month ∷ []) entries
 unbilled_started months entries unbilled month k opened line =
     unbilled k
     (elim (cases_lt k (length months)) [

@@ -39,8 +39,10 @@ pub record IsUnaltered (book book' : Book) : Type 0 where
 abbrev pub Answers : Meaning → (call : Call) → Book → Result (Reply call) Refusal → Type 0
 Answers meaning call book r = r ≡ answer meaning call (view book)
 
--- a call that a book took or refused: its answer, what the book holds after it, and that a refusal leaves the book and every record of its memory as they were
-pub record Performs (meaning : Meaning) (call : Call) (book : Book) (r : Result (Reply call) Refusal) (book' : Book) : Type 0 where
+-- a call that a book took or refused: its answer, what the book holds after it, and that a refusal leaves the
+-- book and every record of its memory as they were
+pub record Performs (meaning : Meaning) (call : Call) (book : Book)
+    (r : Result (Reply call) Refusal) (book' : Book) : Type 0 where
   pub answers : r ≡ answer meaning call (view book)
   pub leaves : view book' ≡ step meaning call (view book)
   pub keeps : OnErr r (IsUnaltered book book')

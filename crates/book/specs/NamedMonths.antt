@@ -20,7 +20,8 @@ pub record IsInBook (m : ℕ) (v : View) (named : NamedMonth) : Type 0 where
 
 -- refused by the rows that every call with a month begins with, whatever rows follow
 abbrev pub RefusesMonth : ℕ → View → Refusal → Type 0
-RefusesMonth m v refusal = (rows : List Row) → first_holding (blank_book m v ∷ no_such_month m v ∷ rows) ≡ Some refusal
+RefusesMonth m v refusal =
+    (rows : List Row) → first_holding (blank_book m v ∷ no_such_month m v ∷ rows) ≡ Some refusal
 
 -- a month that is not final
 abbrev pub IsChangeable : ℕ → View → NamedMonth → Type 0
@@ -28,4 +29,5 @@ IsChangeable m v named = IsInBook m v named × (month_has_reached Final m v ≡ 
 
 abbrev pub RefusesChange : ℕ → View → Refusal → Type 0
 RefusesChange m v refusal =
-    (rows : List Row) → first_holding (blank_book m v ∷ no_such_month m v ∷ month_final m v ∷ rows) ≡ Some refusal
+    (rows : List Row)
+    → first_holding (blank_book m v ∷ no_such_month m v ∷ month_final m v ∷ rows) ≡ Some refusal

@@ -1,4 +1,5 @@
--- The refusal table: for each call its rows, the uppermost first. A call is refused by the first row that holds.
+-- The refusal table: for each call its rows, the uppermost first. A call is refused by the first row that
+-- holds.
 use Rattle.std.specs.Prelude.{ℕ, ◌+◌, ◌-◌, ◌<◌, Bool, true, false, not, ◌&&◌, List, [], ◌∷◌, map, length, is_some, Some, None, Ok, Err, Option, nat_le, nat_lt, if◌then◌else◌}
 use Rattle.std.specs.Str.{bytes_eq}
 use Rattle.ledger.specs.Entries.{differences, entries_for}
@@ -65,7 +66,8 @@ abbrev pub bill_entries : Meaning → View → ℕ → List Entry
 bill_entries meaning v m = entries_for Bill m (amounts_in (month_outcome meaning v m))
 
 abbrev pub true_up_entries : Meaning → View → ℕ → List Entry
-true_up_entries meaning v m = entries_for TrueUp m (differences (amounts_in (month_outcome meaning v m)) (sums_of v m))
+true_up_entries meaning v m =
+    entries_for TrueUp m (differences (amounts_in (month_outcome meaning v m)) (sums_of v m))
 
 -- the rows that several calls share, each with the month that the call names
 abbrev pub blank_book : ℕ → View → Row
@@ -83,10 +85,12 @@ month_open m v = row (not (month_has_reached Billed m v)) (MonthOpen m)
 -- the lowest of the earlier months that has not reached a state
 abbrev pub earlier_short : State → ℕ → View → Row
 earlier_short state m v =
-    let short = first_short state v.months (month_index m) in row (nat_lt short (month_index m)) (EarlierMonth m (short + 1))
+    let short = first_short state v.months (month_index m) in
+    row (nat_lt short (month_index m)) (EarlierMonth m (short + 1))
 
 abbrev pub past_limit : Meaning → ℕ → View → Row
-past_limit meaning m v = row (is_fault (month_outcome meaning v m)) (LinePastLimit m (fault_in (month_outcome meaning v m)))
+past_limit meaning m v =
+    let outcome = month_outcome meaning v m in row (is_fault outcome) (LinePastLimit m (fault_in outcome))
 
 abbrev pub too_few : List Entry → ℕ → View → Row
 too_few entries m v = row (nat_lt (free_entries v) (length entries)) (LedgerFull m (free_entries v))
@@ -163,9 +167,12 @@ rows meaning (posts m place post) v =
     blank_book m v ∷ no_such_month m v ∷ month_final m v ∷ post_rows m place post v
 rows meaning (posts_day m day code readings) v =
     blank_book m v ∷ no_such_month m v ∷ month_final m v ∷ day_rows m day code readings v
-rows meaning (bills m) v = blank_book m v ∷ no_such_month m v ∷ bill_rows meaning m v
-rows meaning (trues_up m) v = blank_book m v ∷ no_such_month m v ∷ month_final m v ∷ true_up_rows meaning m v
-rows meaning (finalises m) v = blank_book m v ∷ no_such_month m v ∷ month_final m v ∷ finalise_rows meaning m v
+rows meaning (bills m) v =
+    blank_book m v ∷ no_such_month m v ∷ bill_rows meaning m v
+rows meaning (trues_up m) v =
+    blank_book m v ∷ no_such_month m v ∷ month_final m v ∷ true_up_rows meaning m v
+rows meaning (finalises m) v =
+    blank_book m v ∷ no_such_month m v ∷ month_final m v ∷ finalise_rows meaning m v
 rows meaning (asks question) v = question_rows meaning question v
 
 -- the first row that holds

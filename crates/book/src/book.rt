@@ -21,7 +21,8 @@ pub struct Book<'a> {
     pub(crate) store: Store<'a>,
     pub(crate) ledger: Ledger<'a>,
     // a month that is not billed has no entry that counts
-    ghost unbilled: { (k : ℕ) → has_reached Billed (slice_index_or (months_of store) k no_month).state ≡ false → (line : ℕ) → line_sum (entries_of ledger) (k + 1) line ≡ pos 0 },
+    ghost unbilled: { (k : ℕ) → has_reached Billed (slice_index_or (months_of store) k no_month).state ≡ false
+        → (line : ℕ) → line_sum (entries_of ledger) (k + 1) line ≡ pos 0 },
 }
 
 // A month of an opened book: as the caller named it, with its index, and its number as entries have
@@ -49,7 +50,8 @@ impl<'a> Book<'a> {
         hours: &'a mut [Hour],
         entries: &'a mut [Entry],
     ) -> Book<'a>
-        ensures { view result ≡ blank (capacity (length quarters.old) (length hours.old)) (length entries.old) }
+        ensures { view result
+            ≡ blank (capacity (length quarters.old) (length hours.old)) (length entries.old) }
     {
         Book {
             point: None,
@@ -68,7 +70,8 @@ impl<'a> Book<'a> {
 
     // The month by its number, from 1.
     pub(crate) fn named_month(&self, month: u32) -> Result<NamedMonth, Refusal>
-        ensures { MatchResult result (IsInBook month (view self.now)) (RefusesMonth month (view self.now)) }
+        ensures { MatchResult result (IsInBook month (view self.now))
+            (RefusesMonth month (view self.now)) }
     {
         let point = self.open_point(month)?;
         if month == 0 {
@@ -90,7 +93,8 @@ impl<'a> Book<'a> {
 
     // A month that is not final, for what may still change one.
     pub(crate) fn changeable_month(&self, month: u32) -> Result<NamedMonth, Refusal>
-        ensures { MatchResult result (IsChangeable month (view self.now)) (RefusesChange month (view self.now)) }
+        ensures { MatchResult result (IsChangeable month (view self.now))
+            (RefusesChange month (view self.now)) }
     {
         let named = self.named_month(month)?;
         if named.state.has_reached(State::Final) {

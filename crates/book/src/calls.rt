@@ -20,7 +20,8 @@ fn done(_reply: ()) -> Answer
 pub fn perform<S: Schedule>(book: &mut Book<'_>, schedule: &S, request: Request<'_>) -> Answer
     ensures answers { result ≡ answer_of (call_of request.entry)
         (answer (S.meaning schedule.now) (call_of request.entry) (view book.old)) }
-    ensures leaves { view book.new ≡ step (S.meaning schedule.now) (call_of request.entry) (view book.old) }
+    ensures leaves { view book.new
+        ≡ step (S.meaning schedule.now) (call_of request.entry) (view book.old) }
 {
     match request {
         Request::Open {

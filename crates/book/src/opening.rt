@@ -22,7 +22,8 @@ impl Book<'_> {
         carried: &[u32],
     ) -> Result<(), Refusal>
         ensures { (meaning : Meaning)
-            → Performs meaning (opens (code_bytes code) contract substation carried.now) self.old result self.new }
+            → Performs meaning (opens (code_bytes code) contract substation carried.now)
+            self.old result self.new }
     {
         if self.point.is_some() {
             return Err(Refusal::BookOpen);

@@ -49,7 +49,8 @@ impl TryFrom<&str> for PointCode {
 
     ghost use Rattle.book.specs.PointCodes.{code_bytes};
 
-    ghost try_from_gives = { λ text result. MatchResult result (λ code. code_bytes code ≡ text.now) (λ _. length text.now ≢ 8) };
+    ghost try_from_gives = { λ text result. MatchResult result (λ code. code_bytes code ≡ text.now)
+        (λ _. length text.now ≢ 8) };
 
     fn try_from(text: &str) -> Result<PointCode, NotPointCode> {
         let bytes = <[u8; 8]>::try_from(text.as_bytes()).map_err(|_| NotPointCode)?;

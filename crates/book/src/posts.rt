@@ -32,7 +32,8 @@ impl Book<'_> {
     /// Posts to a quarter or an hour of a month, from 0. Refused where the month is final, where it
     /// has no such quarter or hour, and where what is posted is outside its limit.
     pub fn post(&mut self, month: u32, place: u32, post: Post) -> Result<(), Refusal>
-        ensures { (meaning : Meaning) → Performs meaning (posts month place post) self.old result self.new }
+        ensures { (meaning : Meaning)
+            → Performs meaning (posts month place post) self.old result self.new }
     {
         let named = self.changeable_month(month)?;
         self.store
@@ -51,7 +52,8 @@ impl Book<'_> {
         readings: &[Reading],
     ) -> Result<(), Refusal>
         ensures { (meaning : Meaning)
-            → Performs meaning (posts_day month day (code_bytes code) readings.now) self.old result self.new }
+            → Performs meaning (posts_day month day (code_bytes code) readings.now)
+            self.old result self.new }
     {
         let named = self.changeable_month(month)?;
         // a day that is not there is refused before the code is: by the store

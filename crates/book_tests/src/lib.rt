@@ -1,9 +1,11 @@
-// Tests of the book.
+//! Tests of the book.
 
 #![tactic(auto)]
 
 #[cfg(test)]
 mod calls;
+#[cfg(test)]
+mod codes;
 #[cfg(test)]
 mod faulty;
 #[cfg(test)]

@@ -1,7 +1,7 @@
 // Entries in print, in lent bytes.
 use crate::support::{CODE, LINES_BILLED, Memory, UNWRITTEN, start_full};
 use book::Book;
-use ledger::{Entry, EntryKind, MOST_BYTES};
+use ledger::{Entry, EntryKind, LineSum, MOST_BYTES};
 use rates::dts::DTS_2007;
 use std::test::Fail;
 use store::{Post, Reading};
@@ -49,6 +49,31 @@ fn a_sign_is_printed(rt: HostRuntime) {
     let mut bytes = [INK; MOST_BYTES];
     assert_eq!(rt; book.text(18, &mut bytes), Ok(13));
     assert_eq!(rt; &bytes[..13], b"1 T 8 -90000\n".as_slice());
+}
+
+#[test]
+fn a_line_has_three_columns(rt: HostRuntime) {
+    let mut memory = Memory::<2976, 744, 28>::new();
+    let mut book = memory.book();
+    assert_eq!(rt; billed(&mut book), Ok(()));
+    let late = Reading {
+        kw: 20_000,
+        kva: 22_000,
+    };
+    assert_eq!(rt; book.post(1, 0, Post::Reading(late)), Ok(()));
+    assert_eq!(rt; trued_up(&mut book), Ok(5));
+    let apparent = LineSum {
+        billed: 90_000,
+        trued_up: -90_000,
+        total: 0,
+    };
+    assert_eq!(rt; book.ledger().line_sum(1, 8), apparent);
+    let capacity = LineSum {
+        billed: 1_015_729,
+        trued_up: -176,
+        total: 1_015_553,
+    };
+    assert_eq!(rt; book.ledger().line_sum(1, 2), capacity);
 }
 
 #[test]

@@ -17,7 +17,9 @@ kind_letter TrueUp = codes "T"
 -- the month, the letter, the line and the cents, one space between
 abbrev pub entry_text : Entry → List ℕ
 entry_text entry =
-    decimal entry.month ++ (codes " " ++ (kind_letter entry.kind ++ (codes " " ++ (decimal entry.line ++ (codes " " ++ signed_decimal entry.cents)))))
+    decimal entry.month ++ (codes " "
+    ++ (kind_letter entry.kind ++ (codes " "
+    ++ (decimal entry.line ++ (codes " " ++ signed_decimal entry.cents)))))
 
 -- as a line of its own
 abbrev pub entry_line : Entry → List ℕ

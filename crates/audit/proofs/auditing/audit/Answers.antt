@@ -15,19 +15,25 @@ use Rattle.audit.proofs.auditing.audit.Goals as goal
 
 module _ {A : Type 0} (chooses : Chooses A) (meaning : Meaning) where
   -- an audit leaves what its calls make of the book
-  performed_by : {n : ℕ} {a b : A} {last : Answer} {v w : View} {calls : List Call} → Audits chooses meaning n a last v calls b w → w ≡ view_after_run meaning calls v
+  performed_by : {n : ℕ} {a b : A} {last : Answer} {v w : View} {calls : List Call}
+      → Audits chooses meaning n a last v calls b w → w ≡ view_after_run meaning calls v
   performed_by over = refl
   performed_by (stops chose) = refl
   performed_by (goes_on chose rest) = performed_by rest
 
   -- one call more at the front
-  asked : {n : ℕ} {a b c : A} {last next : Answer} {v u w : View} {call : Call} {calls : List Call} → chooses a last (Some call) b → next ≡ answer_of call (answer meaning call v) → u ≡ step meaning call v → Audits chooses meaning n b next u calls c w → Audits chooses meaning (suc n) a last v (call ∷ calls) c w
-  asked {n} {b = b} {c} {w = w} {calls = calls} chose told left rest = goes_on chose (subst₂ (λ x y. Audits chooses meaning n b x y calls c w) told left rest)
+  asked : {n : ℕ} {a b c : A} {last next : Answer} {v u w : View} {call : Call} {calls : List Call}
+      → chooses a last (Some call) b → next ≡ answer_of call (answer meaning call v) → u ≡ step meaning call v
+      → Audits chooses meaning n b next u calls c w
+      → Audits chooses meaning (suc n) a last v (call ∷ calls) c w
+  asked {n} {b = b} {c} {w = w} {calls = calls} chose shown left rest = goes_on chose (subst₂ (λ x y. Audits chooses meaning n b x y calls c w) shown left rest)
 
-  of_turns : {n : ℕ} {a b : A} {last : Answer} {v w : View} {calls : List Call} (turns : ℕ) → n ≡ turns → Audits chooses meaning n a last v calls b w → Audits chooses meaning turns a last v calls b w
+  of_turns : {n : ℕ} {a b : A} {last : Answer} {v w : View} {calls : List Call} (turns : ℕ) → n ≡ turns
+      → Audits chooses meaning n a last v calls b w → Audits chooses meaning turns a last v calls b w
   of_turns {a = a} {b} {last} {v} {w} {calls} turns is audited = subst (λ n. Audits chooses meaning n a last v calls b w) is audited
 
-  made_by : {turns : ℕ} {a b : A} {v w : View} {calls : List Call} (months room : ℕ) → v ≡ blank months room → Audits chooses meaning turns a Begun v calls b w → MakesRun chooses meaning turns a months room b w
+  made_by : {turns : ℕ} {a b : A} {v w : View} {calls : List Call} (months room : ℕ) → v ≡ blank months room
+      → Audits chooses meaning turns a Begun v calls b w → MakesRun chooses meaning turns a months room b w
   made_by {turns} {a} {b} {w = w} {calls} months room is audited =
       let from = subst (λ v. Audits chooses meaning turns a Begun v calls b w) is audited in
       record { calls = calls; chosen = from; holds = performed_by from }

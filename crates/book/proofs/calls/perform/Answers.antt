@@ -15,21 +15,34 @@ use Rattle.book.specs.declared.request.Request.{Request}
 use Rattle.book.proofs.calls.perform.Goals as goal
 
 -- the answer of an outcome, case by case
-told_as : {X : Type 0} (as_answer : X → Answer) (outcome : Result X Refusal) (a : Answer) → MatchResult outcome (λ reply. a ≡ as_answer reply) (λ refusal. a ≡ Refused refusal) → a ≡ answer_by as_answer outcome
-told_as as_answer (Ok reply) a is = is
-told_as as_answer (Err refusal) a is = is
+answer_as : {X : Type 0} (as_answer : X → Answer) (outcome : Result X Refusal) (a : Answer)
+    → MatchResult outcome (λ reply. a ≡ as_answer reply) (λ refusal. a ≡ Refused refusal)
+    → a ≡ answer_by as_answer outcome
+answer_as as_answer (Ok reply) a is = is
+answer_as as_answer (Err refusal) a is = is
 
 -- what the request that was matched answers and leaves, where its call did what its contract says
-module _ (meaning : Meaning) (v : View) {request known : Request} (is : request ≡ known) (as_answer : Reply (call_of known) → Answer) (kind : (r : Result (Reply (call_of known)) Refusal) → answer_by as_answer r ≡ answer_of (call_of known) r) where
-  answers_as : (r : Result (Reply (call_of known)) Refusal) (a : Answer) → MatchResult r (λ reply. a ≡ as_answer reply) (λ refusal. a ≡ Refused refusal) → r ≡ answer meaning (call_of known) v → a ≡ answer_of (call_of request) (answer meaning (call_of request) v)
+module _ (meaning : Meaning) (v : View) {request known : Request} (is : request ≡ known)
+    (as_answer : Reply (call_of known) → Answer)
+    (kind : (r : Result (Reply (call_of known)) Refusal) → answer_by as_answer r ≡ answer_of (call_of known) r) where
+  answers_as : (r : Result (Reply (call_of known)) Refusal) (a : Answer)
+      → MatchResult r (λ reply. a ≡ as_answer reply) (λ refusal. a ≡ Refused refusal)
+      → r ≡ answer meaning (call_of known) v
+      → a ≡ answer_of (call_of request) (answer meaning (call_of request) v)
   answers_as r a given answered =
-      told_as as_answer r a given ∙ kind r ∙ ap (answer_of (call_of known)) answered ∙ sym (ap (λ x. answer_of (call_of x) (answer meaning (call_of x) v)) is)
+      answer_as as_answer r a given ∙ kind r ∙ ap (answer_of (call_of known)) answered ∙ sym (ap (λ x. answer_of (call_of x) (answer meaning (call_of x) v)) is)
 
   leaves_as : (w : View) → w ≡ step meaning (call_of known) v → w ≡ step meaning (call_of request) v
   leaves_as w e = e ∙ sym (ap (λ x. step meaning (call_of x) v) is)
 
 -- of a call that may change the book
-performs_as : (meaning : Meaning) (book book' : Book) {request known : Request} → request ≡ known → (as_answer : Reply (call_of known) → Answer) → ((r : Result (Reply (call_of known)) Refusal) → answer_by as_answer r ≡ answer_of (call_of known) r) → (r : Result (Reply (call_of known)) Refusal) (a : Answer) → MatchResult r (λ reply. a ≡ as_answer reply) (λ refusal. a ≡ Refused refusal) → Performs meaning (call_of known) book r book' → record { answers : a ≡ answer_of (call_of request) (answer meaning (call_of request) (view book)); leaves : view book' ≡ step meaning (call_of request) (view book) }
+performs_as : (meaning : Meaning) (book book' : Book) {request known : Request} → request ≡ known
+    → (as_answer : Reply (call_of known) → Answer)
+    → ((r : Result (Reply (call_of known)) Refusal) → answer_by as_answer r ≡ answer_of (call_of known) r)
+    → (r : Result (Reply (call_of known)) Refusal) (a : Answer)
+    → MatchResult r (λ reply. a ≡ as_answer reply) (λ refusal. a ≡ Refused refusal)
+    → Performs meaning (call_of known) book r book'
+    → record { answers : a ≡ answer_of (call_of request) (answer meaning (call_of request) (view book)); leaves : view book' ≡ step meaning (call_of request) (view book) }
 performs_as meaning book book' is as_answer kind r a given performed = record {
   answers = answers_as meaning (view book) is as_answer kind r a given performed.answers;
   leaves = leaves_as meaning (view book) is as_answer kind (view book') performed.leaves;

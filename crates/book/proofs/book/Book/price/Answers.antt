@@ -13,13 +13,18 @@ use Rattle.book.specs.Views.{View, facts_of, month_index, month_outcome}
 use Rattle.book.proofs.book.Book.price.Goals as goal
 
 -- what the schedule was asked is what the file gives
-asked : (meaning : Meaning) (v : View) (m at : ℕ) (facts : PlainFacts) (rows hours : List HourRow) → facts ≡ facts_of v m → rows ≡ hours → hours ≡ hour_rows (get_or v.months at no_month) → at ≡ month_index m → meaning facts rows ≡ month_outcome meaning v m
+asked : (meaning : Meaning) (v : View) (m at : ℕ) (facts : PlainFacts) (rows hours : List HourRow)
+    → facts ≡ facts_of v m → rows ≡ hours → hours ≡ hour_rows (get_or v.months at no_month)
+    → at ≡ month_index m → meaning facts rows ≡ month_outcome meaning v m
 unfolding month_outcome
 asked meaning v m at facts rows hours made lent filled is =
     ap₂ meaning made (lent ∙ filled ∙ ap (λ k. hour_rows (get_or v.months k no_month)) is)
 
 -- a schedule's answer with its fault as a refusal
-named_fault : (m : ℕ) (P : Fault → Refusal → Type 0) (asked : Result Amounts Fault) (r : Result Amounts Refusal) → MatchResult asked (λ amounts. r ≡ Ok amounts) (λ fault. IsErrAnd r (P fault)) → ((fault : Fault) (refusal : Refusal) → P fault refusal → refusal ≡ LinePastLimit m fault) → plain_amounts r ≡ month_result m (plain_amounts asked)
+named_fault : (m : ℕ) (P : Fault → Refusal → Type 0) (asked : Result Amounts Fault) (r : Result Amounts Refusal)
+    → MatchResult asked (λ amounts. r ≡ Ok amounts) (λ fault. IsErrAnd r (P fault))
+    → ((fault : Fault) (refusal : Refusal) → P fault refusal → refusal ≡ LinePastLimit m fault)
+    → plain_amounts r ≡ month_result m (plain_amounts asked)
 named_fault m P (Ok amounts) r is made = ap plain_amounts is
 named_fault m P (Err fault) (Err refusal) is made = ap Err (made fault refusal is)
 named_fault m P (Err fault) (Ok amounts) is made = elim is [ ]

@@ -18,7 +18,9 @@ use Rattle.book.proofs.Unbilled.{Unbilled, unbilled_started}
 use Rattle.book.proofs.book.Book.start.Goals as goal
 
 -- a started month is not billed
-started_unbilled : (book : Book) (days : ℕ) (new : Store) (r : Result ℕ Refusal) → OnOk r (months_of new ≡ (view book).months ++ (new_month days ∷ [])) → OnErr r (new ≡ book.store) → Unbilled (months_of new) (view book).ledger
+started_unbilled : (book : Book) (days : ℕ) (new : Store) (r : Result ℕ Refusal)
+    → OnOk r (months_of new ≡ (view book).months ++ (new_month days ∷ [])) → OnErr r (new ≡ book.store)
+    → Unbilled (months_of new) (view book).ledger
 started_unbilled book days new (Ok number) months refused =
     rw months (unbilled_started (view book).months (view book).ledger book.unbilled (new_month days))
 started_unbilled book days new (Err refusal) months refused = rw refused book.unbilled
@@ -32,7 +34,13 @@ days_alike : (days : ℕ) → not (days_within days) ≡ (ltb days 28 || ltb 31 
 days_alike days = grind (arith, nat_tests)
 
 -- an opened book with one month more, or as it was
-module _ (meaning : Meaning) (book book' : Book) (days : ℕ) (point : Point) (opened : book.point ≡ Some point) (r : Result ℕ Refusal) (is : r ≡ start_answer (view book).capacity (length (view book).months) days) (months : OnOk r (months_of book'.store ≡ (view book).months ++ (new_month days ∷ []))) (refused : OnErr r (book'.store ≡ book.store)) (same : (book'.point ≡ book.point) × (book'.ledger ≡ book.ledger)) (before : earlier_peaks_of book'.store ≡ earlier_peaks_of book.store) (capacity : capacity_of book'.store ≡ capacity_of book.store) where
+module _ (meaning : Meaning) (book book' : Book) (days : ℕ) (point : Point) (opened : book.point ≡ Some point)
+    (r : Result ℕ Refusal) (is : r ≡ start_answer (view book).capacity (length (view book).months) days)
+    (months : OnOk r (months_of book'.store ≡ (view book).months ++ (new_month days ∷ [])))
+    (refused : OnErr r (book'.store ≡ book.store))
+    (same : (book'.point ≡ book.point) × (book'.ledger ≡ book.ledger))
+    (before : earlier_peaks_of book'.store ≡ earlier_peaks_of book.store)
+    (capacity : capacity_of book'.store ≡ capacity_of book.store) where
   not_blank : (blank_book 0 (view book)).holds ≡ false
   not_blank = ap (λ p. not (is_some (point_of p))) opened
 

@@ -7,7 +7,8 @@ use Rattle.book.specs.Memories.{entry_room, month_room}
 use Rattle.book.proofs.memory.BookMemory.new.Goals as goal
 
 -- memory for so many months holds as many
-capacity_for : (quarters hours n : ℕ) → n ≤ MOST_MONTHS → quarters ≡ MONTH_QUARTERS * n → hours ≡ MONTH_HOURS * n → capacity quarters hours ≡ n
+capacity_for : (quarters hours n : ℕ) → n ≤ MOST_MONTHS → quarters ≡ MONTH_QUARTERS * n
+    → hours ≡ MONTH_HOURS * n → capacity quarters hours ≡ n
 unfolding capacity
 capacity_for quarters hours n few quartered houred =
     let by_quarters : quarters / MONTH_QUARTERS ≡ n = ap (λ q. q / MONTH_QUARTERS) quartered ∙ mul-div_cancel_left n (lit< tt) in

@@ -5,7 +5,8 @@ use Rattle.ledger.specs.declared.ledger.Ledger.{Ledger}
 use Rattle.ledger.proofs.Fronts.{entries_length}
 use Rattle.ledger.proofs.ledger.Ledger.push.Goals as goal
 
-free_place : (ledger : Ledger) → length (entries_of ledger) < room_of ledger → ledger.written < length ledger.memory.now
+free_place : (ledger : Ledger) → length (entries_of ledger) < room_of ledger
+    → ledger.written < length ledger.memory.now
 unfolding room_of
 free_place ledger space = omega (arith, entries_length ledger)
 

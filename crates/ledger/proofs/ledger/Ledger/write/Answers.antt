@@ -11,14 +11,18 @@ use Rattle.ledger.proofs.ledger.Ledger.write.Goals as goal
 use Rattle.ledger.proofs.ledger.Ledger.write.Goals.{then-writes, else-writes}
 
 -- the entries written before line i + 1, those still to come, and all of them
-module _ (kind : EntryKind) (month : ℕ) (lines : List ℤ) (done whole : List Entry) (i : ℕ) (so_far : done ++ entries_from kind month (i + 1) (drop i lines) ≡ whole) where
-  written_more : (cents : ℤ) → i < length lines → cents ≡ get_or lines i (pos 0) → is_written kind cents ≡ true → (done ++ entry_of kind month (i + 1) cents ∷ []) ++ entries_from kind month (i + 1 + 1) (drop (i + 1) lines) ≡ whole
+module _ (kind : EntryKind) (month : ℕ) (lines : List ℤ) (done whole : List Entry) (i : ℕ)
+    (so_far : done ++ entries_from kind month (i + 1) (drop i lines) ≡ whole) where
+  written_more : (cents : ℤ) → i < length lines → cents ≡ get_or lines i (pos 0)
+      → is_written kind cents ≡ true
+      → (done ++ entry_of kind month (i + 1) cents ∷ []) ++ entries_from kind month (i + 1 + 1) (drop (i + 1) lines) ≡ whole
   written_more cents here is written =
       let rest = entries_from kind month (i + 1 + 1) (drop (i + 1) lines) in
       let next = ap (entries_from kind month (i + 1)) (drop_more lines i (pos 0) here ∙ ap (λ x. x ∷ drop (i + 1) lines) (sym is)) ∙ entries_cons_written kind month (i + 1) cents (drop (i + 1) lines) written in
       append_assoc done (entry_of kind month (i + 1) cents ∷ []) rest ∙ ap (λ es. done ++ es) (sym next) ∙ so_far
 
-  unwritten_more : i < length lines → is_written kind (get_or lines i (pos 0)) ≡ false → done ++ entries_from kind month (i + 1 + 1) (drop (i + 1) lines) ≡ whole
+  unwritten_more : i < length lines → is_written kind (get_or lines i (pos 0)) ≡ false
+      → done ++ entries_from kind month (i + 1 + 1) (drop (i + 1) lines) ≡ whole
   unwritten_more here unwritten =
       let next = ap (entries_from kind month (i + 1)) (drop_more lines i (pos 0) here) ∙ entries_cons_unwritten kind month (i + 1) (get_or lines i (pos 0)) (drop (i + 1) lines) unwritten in
       ap (λ es. done ++ es) (sym next) ∙ so_far
