@@ -29,7 +29,8 @@ complete_line own published line within same =
     go (length line == own.count) (eqb-true (length line) own.count)
   where
     go : (test : Bool) → (test ≡ true → length line ≡ own.count)
-        → (if test then line ++ take own.first published ++ drop (own.first + own.count) published else line) ≡ line
+        → (if test then line ++ take own.first published ++ drop (own.first + own.count) published else line)
+        ≡ line
     go false is = refl
     go true is =
         let full = is refl in
@@ -54,6 +55,13 @@ figures_again own published figures within same =
     ∙ ap (λ r. a ++ r) (take-append-drop own.count (drop own.first figures))
     ∙ take-append-drop own.first figures in
     let long : length (line_order own figures) ≡ length figures =
-    omega (arith, length-append (b ++ a) rest, length-append b a, length-append (a ++ b) rest, length-append a b, ap length whole) in
+    omega (
+      arith,
+      length-append (b ++ a) rest,
+      length-append b a,
+      length-append (a ++ b) rest,
+      length-append a b,
+      ap length whole,
+    ) in
     ap (sheet_order own) (complete_line own published (line_order own figures) (omega arith) (omega arith))
     ∙ exchanged a b rest own.first own.count first count ∙ whole

@@ -31,14 +31,15 @@ unfolding none_of
 words_text_no_hash [] all = tt
 words_text_no_hash (word ∷ words) all =
     let (first, others) = and_both _ _ all in
-    (refl, none_append is_hash word (words_text words) (no_hash word (and_both _ _ first).1) (words_text_no_hash words others))
+    let front = no_hash word (and_both _ _ first).1 in
+    (refl, none_append is_hash word (words_text words) front (words_text_no_hash words others))
 
 pub text_uncommented : (word : List ℕ) (words : List (List ℕ)) → is_word word ≡ true
     → are_words words ≡ true → uncommented (word ++ words_text words) ≡ word ++ words_text words
 text_uncommented word words first all =
     let text = word ++ words_text words in
-    let none =
-    none_append is_hash word (words_text words) (no_hash word (and_both _ _ first).1) (words_text_no_hash words all) in
+    let front = no_hash word (and_both _ _ first).1 in
+    let none = none_append is_hash word (words_text words) front (words_text_no_hash words all) in
     ap (λ at. take at text) (first_all is_hash text none) ∙ take_all (length text) text (omega arith)
 
 pub text_words : (word : List ℕ) (words : List (List ℕ)) → is_word word ≡ true → are_words words ≡ true

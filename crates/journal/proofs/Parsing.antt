@@ -29,10 +29,12 @@ pub parse_number : {E : Type 0} (word : List ℕ) (r : Result ℕ E) → ParsesU
 unfolding number_of
 parse_number word r parses =
     let digits = without_leading_plus word in
-    ok_where r (digits_value 10 digits) _ (Decides-and _ _ (digits_decided digits) (Decides-ltb (digits_value 10 digits) (2 ^ 32))) parses
+    let fits = Decides-ltb (digits_value 10 digits) (2 ^ 32) in
+    ok_where r (digits_value 10 digits) _ (Decides-and _ _ (digits_decided digits) fits) parses
 
 figure_fits : (minus : Bool) (value : ℕ)
-    → Decides (nat_le value (cond minus (2 ^ 63) (2 ^ 63 - 1))) (SFits w64 (cond minus (neg_ℤ (pos value)) (pos value)))
+    → Decides (nat_le value (cond minus (2 ^ 63) (2 ^ 63 - 1)))
+    (SFits w64 (cond minus (neg_ℤ (pos value)) (pos value)))
 figure_fits true value =
     (λ yes. omega (arith, ints, leb-true _ _ yes), λ fits. le-leb _ _ (omega (arith, ints, fits)))
 figure_fits false value =
@@ -43,7 +45,8 @@ pub parse_figure : {E : Type 0} (word : List ℕ) (r : Result ℤ E) → ParsesS
 unfolding figure_of
 parse_figure word r parses =
     let digits = without_leading_sign word in
-    ok_where r (signed_digits_value 10 word) _ (Decides-and _ _ (digits_decided digits) (figure_fits (starts_with_minus word) (digits_value 10 digits))) parses
+    let fits = figure_fits (starts_with_minus word) (digits_value 10 digits) in
+    ok_where r (signed_digits_value 10 word) _ (Decides-and _ _ (digits_decided digits) fits) parses
 
 -- what `split_once` gives is a cut
 pub split_once-cut : (byte : ℕ) (text : List ℕ) (r : Option (Bor (List ℕ) × Bor (List ℕ)))

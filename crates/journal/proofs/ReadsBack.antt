@@ -56,23 +56,24 @@ number_word n small = numeral_word (decimal n) (decimal_is_IsNumeral n (omega ar
 pub number_again : (n : ℕ) → n < 2 ^ 32 → number_of (decimal n) ≡ Some n
 number_again n small =
     let (numeral, value) = decimal_is_IsNumeral n (omega arith) in
-    sym (parse_number {E =
-    Unit {0}} (decimal n) (Ok n) (rw (no_plus (decimal n) numeral) ((numeral, omega (arith, value)), sym value)))
+    sym (parse_number {E = Unit {0}} (decimal n) (Ok n)
+    (rw (no_plus (decimal n) numeral) ((numeral, omega (arith, value)), sym value)))
 
 pub figure_word : (z : ℤ) → SFits w64 z → is_word (signed_decimal z) ≡ true
 figure_word (pos n) fits = numeral_word (decimal n) (decimal_is_IsNumeral n (omega (arith, ints, fits))).0
 figure_word (negsuc n) fits =
-    word_of (45 ∷ decimal (suc n)) (omega arith) (digits_plain (decimal (suc n)) (decimal_is_IsNumeral (suc n) (omega (arith, ints, fits))).0.1)
+    let numeral = (decimal_is_IsNumeral (suc n) (omega (arith, ints, fits))).0 in
+    word_of (45 ∷ decimal (suc n)) (omega arith) (digits_plain (decimal (suc n)) numeral.1)
 
 pub figure_again : (z : ℤ) → SFits w64 z → figure_of (signed_decimal z) ≡ Some z
 figure_again (pos n) fits =
     let (numeral, value) = decimal_is_IsNumeral n (omega (arith, ints, fits)) in
-    sym (parse_figure {E =
-    Unit {0}} (decimal n) (Ok (pos n)) (rw (no_minus (decimal n) numeral, no_plus (decimal n) numeral, value) ((numeral, fits), refl)))
+    sym (parse_figure {E = Unit {0}} (decimal n) (Ok (pos n))
+    (rw (no_minus (decimal n) numeral, no_plus (decimal n) numeral, value) ((numeral, fits), refl)))
 figure_again (negsuc n) fits =
     let (numeral, value) = decimal_is_IsNumeral (suc n) (omega (arith, ints, fits)) in
-    sym (parse_figure {E =
-    Unit {0}} (45 ∷ decimal (suc n)) (Ok (negsuc n)) (rw value ((numeral, fits), refl)))
+    sym (parse_figure {E = Unit {0}} (45 ∷ decimal (suc n)) (Ok (negsuc n))
+    (rw value ((numeral, fits), refl)))
 
 -- a list at the first item that passes
 unfoldable pub none_of : (ℕ → Bool) → List ℕ → Type 0
@@ -137,19 +138,24 @@ reading_word reading kw kva =
     let (first, first_digits) = (decimal_is_IsNumeral reading.kw (omega arith)).0 in
     let (second, second_digits) = (decimal_is_IsNumeral reading.kva (omega arith)).0 in
     let some : 0 < length (reading_text reading) = simp length-append (omega arith) in
-    word_of (reading_text reading) some (plain_append (decimal reading.kw) (47 ∷ decimal reading.kva) (digits_plain _ first_digits) (digits_plain _ second_digits))
+    word_of (reading_text reading) some
+    (plain_append (decimal reading.kw) (47 ∷ decimal reading.kva) (digits_plain _ first_digits)
+    (digits_plain _ second_digits))
 
 pub reading_again : (reading : Reading) → reading.kw < 2 ^ 32 → reading.kva < 2 ^ 32
     → reading_of (reading_text reading) ≡ Some reading
 unfolding reading_between
 reading_again reading kw kva =
     let none = no_slash (decimal reading.kw) (decimal_is_IsNumeral reading.kw (omega arith)).0.1 in
-    rw (cut_at 47 (decimal reading.kw) (decimal reading.kva) none refl, number_again reading.kw kw, number_again reading.kva kva) refl
+    let cut = cut_at 47 (decimal reading.kw) (decimal reading.kva) none refl in
+    rw (cut, number_again reading.kw kw, number_again reading.kva kva) refl
 
 -- items one after another
 abbrev pub ReadsBack : {X : Type 0} → (List ℕ → Option X) → (X → List ℕ) → List X → Type 0
 ReadsBack parse text front =
-    (rest : List (List ℕ)) → (values_of parse (map text front ++ rest) ≡ option_map (λ more. front ++ more) (values_of parse rest)) × (are_words (map text front ++ rest) ≡ are_words rest)
+    (rest : List (List ℕ))
+    → (values_of parse (map text front ++ rest) ≡ option_map (λ more. front ++ more) (values_of parse rest))
+    × (are_words (map text front ++ rest) ≡ are_words rest)
 
 module _ {X : Type 0} (parse : List ℕ → Option X) (text : X → List ℕ) where
   onto_none : (r : Option (List X)) → r ≡ option_map (λ more. [] ++ more) r
@@ -160,7 +166,8 @@ module _ {X : Type 0} (parse : List ℕ → Option X) (text : X → List ℕ) wh
   ReadsBack-none rest = (onto_none (values_of parse rest), refl)
 
   onto_more : (front : List X) (x : X) (r : Option (List X))
-      → option_map (λ more. front ++ more) (option_map (λ more. x ∷ more) r) ≡ option_map (λ more. (front ++ (x ∷ [])) ++ more) r
+      → option_map (λ more. front ++ more) (option_map (λ more. x ∷ more) r)
+      ≡ option_map (λ more. (front ++ (x ∷ [])) ++ more) r
   onto_more front x None = refl
   onto_more front x (Some more) = ap Some (sym (append_assoc front (x ∷ []) more))
 
@@ -172,7 +179,8 @@ module _ {X : Type 0} (parse : List ℕ → Option X) (text : X → List ℕ) wh
       ∙ append_assoc (map text front) (text x ∷ []) rest in
       let fact = again (text x ∷ rest) in
       let head =
-      ap (λ o. option_and_then (λ item. option_map (λ items. item ∷ items) (values_of parse rest)) o) parsed in (
+      ap (λ o. option_and_then (λ item. option_map (λ items. item ∷ items) (values_of parse rest)) o)
+      parsed in (
         ap (values_of parse) shifted ∙ fact.0 ∙ ap (option_map (λ more. front ++ more)) head
             ∙ onto_more front x (values_of parse rest),
         ap are_words shifted ∙ fact.1 ∙ ap (λ b. b && are_words rest) word,
@@ -182,7 +190,8 @@ module _ {X : Type 0} (parse : List ℕ → Option X) (text : X → List ℕ) wh
       → (are_words (map text front) ≡ true) × (values_of parse (map text front) ≡ Some front)
   ReadsBack-all front again =
       let all = again [] in
-      (ap are_words (sym (append-nil (map text front))) ∙ all.1, ap (values_of parse) (sym (append-nil (map text front))) ∙ all.0 ∙ ap Some (append-nil front))
+      let whole = sym (append-nil (map text front)) in
+      (ap are_words whole ∙ all.1, ap (values_of parse) whole ∙ all.0 ∙ ap Some (append-nil front))
 
 -- the text of words, and of one more
 pub words_text_more : (words : List (List ℕ)) (word : List ℕ)

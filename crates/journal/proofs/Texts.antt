@@ -50,7 +50,8 @@ no_word = refl
 -- what is cut off at a space is a word, or nothing where two spaces stand together
 pub words_cut : (text : List ℕ) (r : Option (Bor (List ℕ) × Bor (List ℕ))) → IsSplitOnceResult 32 text r
     → (cut : Bor (List ℕ) × Bor (List ℕ)) → r ≡ Some cut
-    → (0 < length cut.0.now → words_of text ≡ cut.0.now ∷ words_of cut.1.now) × (length cut.0.now ≡ 0 → words_of text ≡ words_of cut.1.now)
+    → (0 < length cut.0.now → words_of text ≡ cut.0.now ∷ words_of cut.1.now)
+    × (length cut.0.now ≡ 0 → words_of text ≡ words_of cut.1.now)
 words_cut text r split cut is =
     let (here, front, after) = rw is at (split_once_first 32 text r split (lit< tt)) in (
       λ some. words_after_word text here (rw (← front) some)

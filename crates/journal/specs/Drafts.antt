@@ -55,8 +55,16 @@ sheet_order own figures = line_order (record { first = own.count; count = own.fi
 -- where only the customer's own figures are given, the published sheet has the others
 abbrev pub complete_figures : OwnPlaces → List ℤ → List ℤ → List ℤ
 complete_figures own published given =
-    if length given == own.count then given ++ take own.first published ++ drop (own.first + own.count) published
+    if length given == own.count
+    then given ++ take own.first published ++ drop (own.first + own.count) published
     else given
+
+-- the draft of a kind, of the figures that a line gives
+abbrev pub draft_of_figures : {K D : Type 0} → (K → OwnPlaces) → (K → D) → (D → FigureList)
+    → (K → List ℤ → Option D) → K → List ℤ → Option D
+draft_of_figures own published figures from_figures kind given =
+    let all = complete_figures (own kind) (figure_values (figures (published kind))) given in
+    from_figures kind (sheet_order (own kind) all)
 
 -- the draft that words name: the word of a kind, and figures
 abbrev pub draft_of : {K D : Type 0} → (List ℕ → Option K) → (K → OwnPlaces) → (K → D) → (D → FigureList)
@@ -65,13 +73,14 @@ draft_of named own published figures from_figures words = do
   name ← first_word words
   kind ← named name.0
   given ← values_of figure_of name.1
-  from_figures kind (sheet_order (own kind) (complete_figures (own kind) (figure_values (figures (published kind))) given))
+  draft_of_figures own published figures from_figures kind given
 
 -- the words that write a draft
 abbrev pub draft_words : {K D : Type 0} → (K → List ℕ) → (D → K) → (K → OwnPlaces) → (D → FigureList) → D
     → List (List ℕ)
 draft_words word kind_of own figures draft =
-    word (kind_of draft) ∷ map signed_decimal (line_order (own (kind_of draft)) (figure_values (figures draft)))
+    let kind = kind_of draft in
+    word kind ∷ map signed_decimal (line_order (own kind) (figure_values (figures draft)))
 
 abbrev pub rate_of : List (List ℕ) → Option RateDraft
 rate_of words = draft_of rate_named rate_own rate_published rate_figures rate_from_figures words

@@ -15,7 +15,9 @@ are_digits digits = nat_lt 0 (length digits) && all_ascii_digits digits
 unfoldable pub number_of : List ℕ → Option ℕ
 number_of word =
     let digits = without_leading_plus word in
-    if are_digits digits && nat_lt (digits_value 10 digits) (2 ^ 32) then Some (digits_value 10 digits) else None
+    if are_digits digits && nat_lt (digits_value 10 digits) (2 ^ 32)
+    then Some (digits_value 10 digits)
+    else None
 
 -- the most that the digits of a figure may write: 64 bits hold it with its sign
 abbrev pub most_figure : List ℕ → ℕ
@@ -25,13 +27,17 @@ most_figure word = if starts_with_minus word then 2 ^ 63 else 2 ^ 63 - 1
 unfoldable pub figure_of : List ℕ → Option ℤ
 figure_of word =
     let digits = without_leading_sign word in
-    if are_digits digits && nat_le (digits_value 10 digits) (most_figure word) then Some (signed_digits_value 10 word) else None
+    if are_digits digits && nat_le (digits_value 10 digits) (most_figure word)
+    then Some (signed_digits_value 10 word)
+    else None
 
 -- the texts before and after the first of this byte, where there is one
 abbrev pub cut_of : ℕ → List ℕ → Option (List ℕ × List ℕ)
 cut_of byte text =
     let here : ℕ → Bool = λ b. b == byte in
-    if nat_lt (position_or_len here text) (length text) then Some (before_first here text, after_first here text) else None
+    if nat_lt (position_or_len here text) (length text)
+    then Some (before_first here text, after_first here text)
+    else None
 
 -- a reading: its kW, this byte, and its kVA
 unfoldable pub reading_between : ℕ → List ℕ → Option Reading

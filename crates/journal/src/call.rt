@@ -13,7 +13,7 @@ use store::{Post, Reading};
 
 /// A call, with its numbers as the line has them: whether they lie within their limits is for
 /// whoever performs it. Months are numbered from 1; days, quarters, hours and entries from 0.
-#[derive(Drop)]
+#[derive(PartialEq, Eq, Debug, Drop)]
 pub enum Call<'a> {
     /// How many months and entries the book has room for.
     Memory {
@@ -139,8 +139,8 @@ impl Call<'_> {
         }
     }
 
-    /// The line that writes it down. It reads as the call again, where the texts that the call names
-    /// are words: without a space and without `#`.
+    /// The line that writes it down. It reads as the call again, where the texts that the call
+    /// names are words: not empty, without a space and without `#`.
     pub fn write(&self, alloc: Global) -> Result<String, AllocError>
         ensures text { IfOk result (λ line. string_bytes line ≡ line_text self.now) }
         ensures again { IfOk result (λ line. IsWritable self.now →

@@ -96,8 +96,8 @@ fn values(alloc: Global, figures: &Figures) -> Result<Vec<i64>, AllocError>
         .collect(alloc)
 }
 
-// The figures of a sheet as a line has them, the customer's own before the others. With the two counts
-// of `own` exchanged it is the way back.
+// The figures of a sheet as a line has them, the customer's own before the others. With the two
+// counts of `own` exchanged it is the way back.
 fn line_order(alloc: Global, own: Own, figures: &[i64]) -> Result<Vec<i64>, AllocError>
     requires { own.first + own.count ≤ length figures.now }
     ensures { IfOk result (λ ordered. ordered.items ≡ line_order own figures.now) }

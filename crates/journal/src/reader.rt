@@ -111,8 +111,8 @@ fn call_of(alloc: Global, verb: Verb, text: &str) -> Result<Option<Call<'_>>, Al
     }
 }
 
-/// The call that a line writes down: none where it has no word, or only a comment; an error where its
-/// first word begins no call, or its other words are not those of the call.
+/// The call that a line writes down: none where it has no word, or only a comment; an error where
+/// its first word begins no call, or its other words are not those of the call.
 pub fn read(alloc: Global, line: &str) -> Result<Option<Call<'_>>, ParseError>
     ensures { Gives result (parse_result (words_of (uncommented line.now))) }
 {

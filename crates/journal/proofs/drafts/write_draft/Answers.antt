@@ -16,6 +16,8 @@ returns-clause-again g c =
     let own = g.K.SheetKind.own kind in
     let figures : List ℤ = figure_values (g.K.SheetKind.figures draft) in
     let published : List ℤ = figure_values (g.K.SheetKind.figures (g.K.SheetKind.published kind)) in
+    let count =
+    length-map (g.K.SheetKind.figures (g.K.SheetKind.published kind)) (λ (figure : Figure). figure.value) in
     let back = g.met.K.SheetKind.read_back draft in
     let named : g.K.NamedKind.named (g.K.NamedKind.word kind) ≡ Some kind =
     rw (c.of-kind.ensures) at c.word.ensures.again in
@@ -25,9 +27,9 @@ returns-clause-again g c =
     let some : IsSome (g.K.SheetKind.from_figures kind figures) = rw back refl in
     let same : length figures ≡ length published =
     (g.met.K.SheetKind.complete kind figures).0 some
-    ∙ sym (length-map (g.K.SheetKind.figures (g.K.SheetKind.published kind)) (λ (figure : Figure). figure.value)) in
+    ∙ sym count in
     let within : own.first + own.count ≤ length figures =
-    omega (arith, g.met.K.NamedKind.own_within kind, length-map (g.K.SheetKind.figures (g.K.SheetKind.published kind)) (λ (figure : Figure). figure.value)) in
+    omega (arith, g.met.K.NamedKind.own_within kind, count) in
     let again : sheet_order own (complete_figures own published (line_order own figures)) ≡ figures =
     figures_again own published figures within (sym same) in
     rw (named, parsed) (ap (g.K.SheetKind.from_figures kind) again ∙ back)

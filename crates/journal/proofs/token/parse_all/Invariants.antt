@@ -10,7 +10,8 @@ use Rattle.journal.proofs.token.parse_all.Given as goal
 abbrev pub invariant-loop-word : goal.invariant-loop-word
 invariant-loop-word g l = record {
   text : shadow (Utf8 l.left);
-  found : option_map (λ more. l.items.items ++ more) (values_of g.T.Token.parse (words_of l.left)) ≡ values_of g.T.Token.parse (words_of l.fn.text);
+  found : option_map (λ more. l.items.items ++ more) (values_of g.T.Token.parse (words_of l.left))
+      ≡ values_of g.T.Token.parse (words_of l.fn.text);
 }
 
 abbrev pub decreases-loop-word : goal.decreases-loop-word

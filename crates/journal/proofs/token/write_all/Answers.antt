@@ -26,10 +26,12 @@ loop-item-preserved g c =
     record {
       text = item.written ∙ ap (λ t. t ++ words_text (text x ∷ [])) c.loop-item.invariant.text
           ∙ append_assoc before (words_text (map text front)) (words_text (text x ∷ []))
-          ∙ ap (λ t. before ++ t) (sym (words_text_more (map text front) (text x)) ∙ ap words_text (sym (map-append text front (x ∷ []))))
+          ∙ ap (λ t. before ++ t) (sym (words_text_more (map text front) (text x)))
+          ∙ ap (λ w. before ++ words_text w) (sym (map-append text front (x ∷ [])))
           ∙ ap (λ f. before ++ words_text (map text f)) (sym split);
       again =
-          subst (ReadsBack g.T.Token.parse text) (sym split) (ReadsBack-more g.T.Token.parse text front x c.loop-item.invariant.again item.word item.again);
+          subst (ReadsBack g.T.Token.parse text) (sym split)
+          (ReadsBack-more g.T.Token.parse text front x c.loop-item.invariant.again item.word item.again);
     }
 
 pub returns : goal.returns
@@ -37,7 +39,8 @@ returns g c =
     let text = g.T.Token.text in
     let whole = take_all c.loop-item.item-index c.args.items.now c.loop-item-test.false in
     let (words, again) =
-    ReadsBack-all g.T.Token.parse text c.args.items.now (subst (ReadsBack g.T.Token.parse text) whole c.loop-item.invariant.again) in
+    ReadsBack-all g.T.Token.parse text c.args.items.now
+    (subst (ReadsBack g.T.Token.parse text) whole c.loop-item.invariant.again) in
     record {
       written = c.loop-item.invariant.text
           ∙ ap (λ f. string_bytes c.args.line.now ++ words_text (map text f)) whole;

@@ -16,7 +16,8 @@ loop-front-preserved c =
     record {
       text = search rules;
       same =
-          sym ((words_cut c.loop-front.left.now c.split_once.result c.split_once.ensures.cases _ c.in-Some.is).1 empty)
+          sym ((words_cut c.loop-front.left.now c.split_once.result c.split_once.ensures.cases _
+          c.in-Some.is).1 empty)
           ∙ c.loop-front.invariant.same;
       within = grind (arith, common_steps);
     }

@@ -18,7 +18,8 @@ returns-clause-again c writable =
     let whole : string_bytes c.write_words.new.line ≡ line_text c.args.self.now =
     after.written ∙ ap (λ t. t ++ words_text words) begun in
     ap (λ t. parse_result (words_of (uncommented t))) whole
-    ∙ ap (λ t. parse_result (words_of t)) (text_uncommented (verb_word verb) words (verb_is_word verb) (after.words writable))
+    ∙ ap (λ t. parse_result (words_of t))
+    (text_uncommented (verb_word verb) words (verb_is_word verb) (after.words writable))
     ∙ ap parse_result (text_words (verb_word verb) words (verb_is_word verb) (after.words writable))
     ∙ ap (λ v. by_verb v words) (verb_again verb)
     ∙ ap (or_error (Expected verb)) after.again
