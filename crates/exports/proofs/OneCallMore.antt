@@ -8,7 +8,8 @@ use Rattle.exports.specs.declared.answer.AnswerRecord.{AnswerRecord}
 
 module _ (meaning : Meaning) (last : Option Call) where
   view_after_more : (calls : List (Option Call)) (v : View)
-      → view_after_calls meaning (calls ++ last ∷ []) v ≡ view_after_call meaning last (view_after_calls meaning calls v)
+      → view_after_calls meaning (calls ++ last ∷ []) v
+      ≡ view_after_call meaning last (view_after_calls meaning calls v)
   view_after_more [] v = refl
   view_after_more (call ∷ calls) v = view_after_more calls (view_after_call meaning call v)
 
@@ -20,8 +21,10 @@ module _ (meaning : Meaning) (last : Option Call) where
       ap (λ rest. answer_to meaning call v ∷ rest) (answers_more calls (view_after_call meaning call v))
 
   -- the answers so far with that of one call more
-  pub answers_with_last : (calls : List (Option Call)) (v w : View) (answers : List AnswerRecord) (new : AnswerRecord)
-      → answers ≡ answers_to meaning calls v → w ≡ view_after_calls meaning calls v → new ≡ answer_to meaning last w
+  pub answers_with_last : (calls : List (Option Call)) (v w : View) (answers : List AnswerRecord)
+      (new : AnswerRecord)
+      → answers ≡ answers_to meaning calls v → w ≡ view_after_calls meaning calls v
+      → new ≡ answer_to meaning last w
       → answers ++ new ∷ [] ≡ answers_to meaning (calls ++ last ∷ []) v
   answers_with_last calls v w answers new so_far view_so_far is =
       ap (λ xs. xs ++ new ∷ []) so_far

@@ -11,9 +11,11 @@ use Rattle.exports.specs.Runs.{IsRun, answers_to, records_with, view_after_calls
 use Rattle.exports.specs.declared.answer.AnswerRecord.{AnswerRecord}
 use Rattle.exports.specs.declared.entry.EntryRecord.{EntryRecord}
 
--- as many entries as there are records
-abbrev pub entries_that_fit : List EntryRecord → List Entry → List Entry
-entries_that_fit records ledger = take (min (length records) (length ledger)) ledger
+-- as many entries as fit over the first records, and past them the records as they were
+abbrev pub written_over : List EntryRecord → List Entry → List EntryRecord
+written_over records ledger =
+    let fit = take (min (length records) (length ledger)) ledger in
+    map entry_record fit ++ drop (length fit) records
 
 -- past the entries that fit the records stay
 rest_as : (records : List EntryRecord) (ledger : List Entry)
@@ -24,13 +26,13 @@ rest_as records ledger =
     let mapped = length-map ledger entry_record in
     elim (cases_lt (length ledger) n) [
       | inl fewer ↦ ap (λ k. drop k records) (omega (arith, fit, mapped, fewer))
-      | inr more ↦ drop_all _ records (omega (arith, fit, more)) ∙ sym (drop_all _ records (omega (arith, mapped, more)))
+      | inr more ↦ drop_all _ records (omega (arith, fit, more))
+          ∙ sym (drop_all _ records (omega (arith, mapped, more)))
     ]
 
 -- those that fit, over the first records
 written_as : (records : List EntryRecord) (ledger : List Entry)
-    → map entry_record (entries_that_fit records ledger) ++ drop (length (entries_that_fit records ledger)) records
-    ≡ records_with (map entry_record ledger) records
+    → written_over records ledger ≡ records_with (map entry_record ledger) records
 written_as records ledger =
     let n = length records in
     rw (take_min n ledger) (
@@ -39,15 +41,16 @@ written_as records ledger =
     )
 
 module _ (meaning : Meaning) (calls : List (Option Call)) (new v w : View) where
-  pub is_run : (entries : List EntryRecord) (answers' : List AnswerRecord) (entries' : List EntryRecord) (count : ℕ)
-      (ledger : List Entry) → v ≡ new → answers' ≡ answers_to meaning calls v
+  pub is_run : (entries : List EntryRecord) (answers' : List AnswerRecord) (entries' : List EntryRecord)
+      (count : ℕ) (ledger : List Entry) → v ≡ new → answers' ≡ answers_to meaning calls v
       → w ≡ view_after_calls meaning calls v → ledger ≡ w.ledger
-      → entries' ≡ map entry_record (entries_that_fit entries ledger) ++ drop (length (entries_that_fit entries ledger)) entries
-      → count ≡ length ledger → IsRun meaning calls new entries answers' entries' count
+      → entries' ≡ written_over entries ledger → count ≡ length ledger
+      → IsRun meaning calls new entries answers' entries' count
   is_run entries answers' entries' count ledger begins answers leaves held written count_is =
       let left = held ∙ ap (λ x. x.ledger) (leaves ∙ ap (view_after_calls meaning calls) begins) in
       record {
         answers = answers ∙ ap (answers_to meaning calls) begins;
-        ledger = written ∙ written_as entries ledger ∙ ap (λ es. records_with (map entry_record es) entries) left;
+        ledger = written ∙ written_as entries ledger
+            ∙ ap (λ es. records_with (map entry_record es) entries) left;
         count_is = count_is ∙ ap length left;
       }

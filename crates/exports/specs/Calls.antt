@@ -12,7 +12,8 @@ use Rattle.exports.specs.declared.call.CallRecord.{CallRecord}
 -- the kinds of calls in the order of their numbers, from 0
 abbrev pub call_kinds : List CallKind
 call_kinds =
-    Open ∷ Start ∷ PostReading ∷ PostDay ∷ PostPrice ∷ PostSchedule ∷ Bill ∷ TrueUp ∷ Finalise ∷ Due ∷ Total ∷ []
+    Open ∷ Start ∷ PostReading ∷ PostDay ∷ PostPrice ∷ PostSchedule
+    ∷ Bill ∷ TrueUp ∷ Finalise ∷ Due ∷ Total ∷ []
 
 -- so many items of a list from a place on, where it has them
 abbrev pub part_of : {X : Type 0} → List X → ℕ → ℕ → Option (List X)
@@ -38,4 +39,5 @@ call_of_kind carried readings r Total = Some (asks (line_total r.month r.place))
 
 -- none, too, where the number is of no call
 abbrev pub described_call : List ℕ → List Reading → CallRecord → Option Call
-described_call carried readings r = option_and_then (call_of_kind carried readings r) (slice_get call_kinds r.kind)
+described_call carried readings r =
+    option_and_then (call_of_kind carried readings r) (slice_get call_kinds r.kind)

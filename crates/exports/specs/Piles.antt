@@ -1,5 +1,5 @@
 -- The sheets that records describe, and why there may be none.
-use Rattle.std.specs.Prelude.{◌≡◌, ℕ, ◌<◌, List, length, map, slice_index_or, take, Some, None, Option, IsSomeAnd}
+use Rattle.std.specs.Prelude.{◌≡◌, ℕ, ◌<◌, List, length, map, take, Some, None, Option, IsSomeAnd}
 use Rattle.std.specs.List.{slice_get}
 use Rattle.piles.specs.Rates.{rate_draft, rate_figures, rate_meaning}
 use Rattle.piles.specs.Riders.{rider_amount, rider_draft, rider_figures, rider_line, rider_number}
@@ -24,8 +24,7 @@ DescribesSheets rate riders sheet sheets =
 abbrev pub sheets_meaning : RateSheet → List RiderSheet → Meaning
 sheets_meaning sheet sheets = pile_meaning rider_line rider_number rider_amount (rate_meaning sheet) sheets
 
--- why a record gives no sheet: its number is of no kind, or its draft has a figure outside its limits, the first of
--- which is told
+-- why a record gives no sheet: its number is of no kind, or its draft is refused by its first figure outside
 abbrev pub FailsToSeal : {K D : Type 0} → List K → (D → FigureList) → ℕ → Option D → Failure → Type 0
 FailsToSeal kinds figures number draft Damaged = slice_get kinds number ≡ None
 FailsToSeal kinds figures number draft (Refused refusal) =
@@ -41,9 +40,9 @@ RiderFails rider = FailsToSeal rider_kinds rider_figures rider.rider (described_
 -- why there is no pile: the rate; else the lowest of the riders that fails, or no memory to hold the next
 pub data FailsToPile (rate : RateRecord) (riders : List RiderRecord) : Failure → Type 0 where
   rate_fails : {failure : Failure} → RateFails rate failure → FailsToPile rate riders failure
-  rider_fails : {failure : Failure} (k : ℕ) (d : RiderRecord) (sheet : RateSheet) (beneath : List RiderSheet)
-      → k < length riders → DescribesSheets rate (take k riders) sheet beneath
-      → RiderFails (slice_index_or riders k d) failure
+  rider_fails : {failure : Failure} (k : ℕ) (rider : RiderRecord) (sheet : RateSheet)
+      (beneath : List RiderSheet) → slice_get riders k ≡ Some rider
+      → DescribesSheets rate (take k riders) sheet beneath → RiderFails rider failure
       → FailsToPile rate riders failure
   no_memory : (k : ℕ) (sheet : RateSheet) (beneath : List RiderSheet)
       → k < length riders → DescribesSheets rate (take k riders) sheet beneath

@@ -19,8 +19,8 @@ use Rattle.exports.specs.declared.sheets.RateRecord.{RateRecord}
 use Rattle.exports.specs.declared.sheets.RiderRecord.{RiderRecord}
 
 -- facts and hours lie within their limits, and the sheets price them so
-pub record PricesMonth (rate : RateRecord) (riders : List RiderRecord) (facts : PlainFacts) (hours : List HourRow)
-    (cents : List ℤ) : Type 0 where
+pub record PricesMonth (rate : RateRecord) (riders : List RiderRecord) (facts : PlainFacts)
+    (hours : List HourRow) (cents : List ℤ) : Type 0 where
   pub sheet : RateSheet
   pub sheets : List RiderSheet
   pub described : DescribesSheets rate riders sheet sheets
@@ -29,9 +29,10 @@ pub record PricesMonth (rate : RateRecord) (riders : List RiderRecord) (facts : 
   pub priced : pricing (sheets_meaning sheet sheets) facts hours ≡ Ok cents
 
 -- the first that holds: there is no such pile, the facts lie outside, the hours do, the pricing is refused
-pub data FailsToPrice (rate : RateRecord) (riders : List RiderRecord) (facts : PlainFacts) (hours : List HourRow)
-    : Failure → Type 0 where
-  no_pile : {failure : Failure} → FailsToPile rate riders failure → FailsToPrice rate riders facts hours failure
+pub data FailsToPrice (rate : RateRecord) (riders : List RiderRecord) (facts : PlainFacts)
+    (hours : List HourRow) : Failure → Type 0 where
+  no_pile : {failure : Failure} → FailsToPile rate riders failure
+      → FailsToPrice rate riders facts hours failure
   facts_outside : (sheet : RateSheet) (sheets : List RiderSheet) → DescribesSheets rate riders sheet sheets
       → ¬ FactsWithin facts
       → FailsToPrice rate riders facts hours (Refused (OutsideLimit 0 0))
@@ -44,8 +45,8 @@ pub data FailsToPrice (rate : RateRecord) (riders : List RiderRecord) (facts : P
       → FailsToPrice rate riders facts hours (Refused refusal)
 
 -- what the call answers, with the cents before and after it
-pub data AnswersPricing (rate : RateRecord) (riders : List RiderRecord) (facts : PlainFacts) (hours : List HourRow)
-    (old : CentsRecord) : AnswerRecord → CentsRecord → Type 0 where
+pub data AnswersPricing (rate : RateRecord) (riders : List RiderRecord) (facts : PlainFacts)
+    (hours : List HourRow) (old : CentsRecord) : AnswerRecord → CentsRecord → Type 0 where
   prices : {cents : List ℤ} → PricesMonth rate riders facts hours cents
       → AnswersPricing rate riders facts hours old (record_of Done) (record { cents = cents })
   fails : {failure : Failure} → FailsToPrice rate riders facts hours failure

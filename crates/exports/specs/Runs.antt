@@ -69,7 +69,7 @@ pub record MakesCalls (rate : RateRecord) (riders : List RiderRecord) (months : 
   pub run : IsRun (sheets_meaning sheet sheets) (map (described_call carried readings) calls)
       (new_book months entries) entries answers' entries' count
 
--- the first that holds: there is not an answer for each call, there is no such pile, or no memory for the book
+-- the first that holds: there is not an answer for each call, there is no such pile, no memory for the book
 pub data FailsToRun (rate : RateRecord) (riders : List RiderRecord) (calls : List CallRecord)
     (answers : List AnswerRecord) : Failure → Type 0 where
   no_answer_for_each : length answers ≢ length calls → FailsToRun rate riders calls answers Damaged
@@ -81,10 +81,12 @@ pub data FailsToRun (rate : RateRecord) (riders : List RiderRecord) (calls : Lis
 
 -- what the call answers, with answers and entries before and after it
 pub data AnswersRun (rate : RateRecord) (riders : List RiderRecord) (months : ℕ) (carried : List ℕ)
-    (readings : List Reading) (calls : List CallRecord) (answers : List AnswerRecord) (entries : List EntryRecord)
-    : AnswerRecord → List AnswerRecord → List EntryRecord → Type 0 where
+    (readings : List Reading) (calls : List CallRecord) (answers : List AnswerRecord)
+    (entries : List EntryRecord) : AnswerRecord → List AnswerRecord → List EntryRecord → Type 0 where
   runs : {count : ℕ} {answers' : List AnswerRecord} {entries' : List EntryRecord}
       → MakesCalls rate riders months carried readings calls entries answers' entries' count
-      → AnswersRun rate riders months carried readings calls answers entries (record_of (Written count)) answers' entries'
+      → AnswersRun rate riders months carried readings calls answers entries
+      (record_of (Written count)) answers' entries'
   fails : {failure : Failure} → FailsToRun rate riders calls answers failure
-      → AnswersRun rate riders months carried readings calls answers entries (failure_record failure) answers entries
+      → AnswersRun rate riders months carried readings calls answers entries
+      (failure_record failure) answers entries

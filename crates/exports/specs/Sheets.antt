@@ -30,7 +30,9 @@ described_draft kinds published figures from_figures number values =
     (slice_get kinds number)
 
 abbrev pub described_rate : RateRecord → Option RateDraft
-described_rate r = described_draft rate_kinds rate_published rate_figures rate_from_figures r.rate r.figures
+described_rate r =
+    described_draft rate_kinds rate_published rate_figures rate_from_figures r.rate r.figures
 
 abbrev pub described_rider : RiderRecord → Option RiderDraft
-described_rider r = described_draft rider_kinds rider_published rider_figures rider_from_figures r.rider r.figures
+described_rider r =
+    described_draft rider_kinds rider_published rider_figures rider_from_figures r.rider r.figures

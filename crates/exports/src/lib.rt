@@ -17,4 +17,4 @@ pub use call::CallRecord;
 pub use entry::EntryRecord;
 pub use price::{CentsRecord, mohzetna_price};
 pub use run::mohzetna_run;
-pub use sheets::{RateRecord, RiderRecord};
+pub use sheets::{RIDER_FIGURES, RateRecord, RiderRecord};

@@ -13,7 +13,7 @@ use crate::failure::{Damaged, Failure};
 use piles::{RateKind, RateSheet, RiderKind, RiderSheet, SheetKind};
 use tariff::MOST_FIGURES;
 
-/// The most figures that the sheet of a rider has.
+/// The most figures that the sheet of a rider has, its number among them.
 pub const RIDER_FIGURES: usize = 6;
 
 /// A rate and its sheet.
@@ -32,8 +32,8 @@ pub struct RateRecord {
 #[repr(C)]
 #[derive(Clone, Copy, PartialEq, Eq, Debug)]
 pub struct RiderRecord {
-    /// Which rider: 0 so much for each MWh, 1 so much of all the lines beneath, 2 the Primary Service
-    /// Credit. A record of another number is damaged.
+    /// Which rider: 0 so much for each MWh, 1 so much of all the lines beneath, 2 the Primary
+    /// Service Credit. A record of another number is damaged.
     pub rider: u32,
     /// The figures in the order of the sheet, the rider's number first; what lies past them is not
     /// read.

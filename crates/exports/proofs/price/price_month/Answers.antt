@@ -30,7 +30,8 @@ pub returns : goal.returns
 returns c =
     let pile = c.in_ok-pile.pile in
     let meaning = sheets_meaning pile.schedule pile.riders.items in
-    let priced : pricing meaning c.args.facts.now c.args.hours.now ≡ Ok c.in_ok-price.field-0.cents = search rules in
+    let cents = c.in_ok-price.field-0.cents in
+    let priced : pricing meaning c.args.facts.now c.args.hours.now ≡ Ok cents = search rules in
     record {
       sheet = pile.schedule;
       sheets = pile.riders.items;
