@@ -1,60 +1,35 @@
 -- What pricing a month depends on: the file of that month, and the peaks before it.
-use Rattle.std.proofs.Common.{◌≡◌, ℕ, suc, ◌+◌, List, [], ◌∷◌, ◌++◌, map, length, take, drop, Option, sym, refl, ap, ◌∙◌, arith}
+use Rattle.std.proofs.Common.{◌≡◌, ℕ, suc, ◌+◌, List, [], ◌∷◌, ◌++◌, map, length, take, drop, sym, refl, ap, ◌∙◌, arith}
 use Rattle.std.proofs.lemmas.List.{drop-take}
 use Rattle.book.specs.Views.{View, altered_line, contract_of, facts_of, month_at, month_index, month_outcome, substation_of, sums_of}
-use Rattle.store.specs.Months.{HourOnFile, Month, peak_kva, ratchet_peak, hour_rows, kva_of, kw_of, peak, top}
+use Rattle.store.specs.Facts.{facts_of_month}
+use Rattle.store.specs.Months.{Month, peak_kva, ratchet_peak, hour_rows, kva_of, kw_of, peak, top}
 use Rattle.store.specs.declared.carried.TheConstants.{RATCHET}
-use Rattle.store.specs.declared.post.Reading.{Reading}
-use Rattle.store.specs.declared.month.State.TheVariants.{Open}
 use Rattle.tariff.specs.Pricing.{Meaning}
 use Rattle.tariff.specs.declared.facts.PlainFacts.{PlainFacts}
 use Rattle.tariff.specs.declared.hours.HourRow.{HourRow}
 use Rattle.audit.specs.Laws.{Agree}
 
--- the state of a month does not enter its rows, its peak or its highest kVA
-rows_of : ℕ → List (Option Reading) → List HourOnFile → List HourRow
-rows_of days readings hours = hour_rows (record { days = days; state = Open; readings = readings; hours = hours })
-
-hour_rows_from : (month : Month) → hour_rows month ≡ rows_of month.days month.readings month.hours
-unfolding hour_rows rows_of
-hour_rows_from month = refl
-
 pub peak_from : (a b : Month) → a.readings ≡ b.readings → peak a ≡ peak b
 unfolding peak
 peak_from a b e = ap (λ readings. top (map kw_of readings)) e
 
-apparent_from : (a b : Month) → a.readings ≡ b.readings → peak_kva a ≡ peak_kva b
+peak_kva_from : (a b : Month) → a.readings ≡ b.readings → peak_kva a ≡ peak_kva b
 unfolding peak_kva
-apparent_from a b e = ap (λ readings. top (map kva_of readings)) e
-
-facts_from : ℕ → ℕ → ℕ → ℕ → ℕ → PlainFacts
-facts_from contract substation peak peak_kva ratchet_peak = record {
-  contract = contract;
-  substation = substation;
-  peak = peak;
-  peak_kva = peak_kva;
-  ratchet_peak = ratchet_peak;
-}
-
-facts_of_from : (v : View) (m : ℕ) → facts_of v m ≡ facts_from (contract_of v.point) (substation_of v.point) (peak (month_at m v)) (peak_kva (month_at m v)) (facts_of v m).ratchet_peak
-unfolding facts_of facts_from
-facts_of_from v m = refl
+peak_kva_from a b e = ap (λ readings. top (map kva_of readings)) e
 
 -- books that agree on a month price it alike, where its days are alike too
 module _ (v : View) (m : ℕ) (w : View) (n : ℕ) (agree : Agree v m w n) (days : (month_at m v).days ≡ (month_at n w).days) where
   agreed_facts : facts_of v m ≡ facts_of w n
+  unfolding facts_of facts_of_month
   agreed_facts =
-      let one = facts_of_from v m in
-      let two = facts_of_from w n in
       let peaks = peak_from (month_at m v) (month_at n w) agree.readings in
-      let apparents = apparent_from (month_at m v) (month_at n w) agree.readings in
-      cc (agree.contract, agree.substation, agree.ratchet_peak)
+      let peaks_kva = peak_kva_from (month_at m v) (month_at n w) agree.readings in
+      rw (agree.contract, agree.substation, peaks, peaks_kva, agree.ratchet_peak) refl
 
   agreed_hours : hour_rows (month_at m v) ≡ hour_rows (month_at n w)
-  agreed_hours =
-      let one = hour_rows_from (month_at m v) in
-      let two = hour_rows_from (month_at n w) in
-      cc (agree.readings, agree.hours)
+  unfolding hour_rows
+  agreed_hours = rw (agree.readings, agree.hours, days) refl
 
   pub agreed : (meaning other : Meaning) → ((facts : PlainFacts) (hours : List HourRow) → meaning facts hours ≡ other facts hours) → month_outcome meaning v m ≡ month_outcome other w n
   unfolding month_outcome
@@ -86,7 +61,7 @@ pub record Spared (v : View) (m : ℕ) (w : View) : Type 0 where
 
 module _ (v : View) (m : ℕ) (w : View) (counted : length v.before ≡ RATCHET) (spared : Spared v m w) where
   spared_earlier : (facts_of v m).ratchet_peak ≡ (facts_of w m).ratchet_peak
-  unfolding facts_of ratchet_peak
+  unfolding facts_of facts_of_month ratchet_peak
   spared_earlier =
       let old = window v.before (map peak v.months) RATCHET (month_index m) counted in
       let new = window w.before (map peak w.months) RATCHET (month_index m) (ap length (sym spared.before) ∙ counted) in

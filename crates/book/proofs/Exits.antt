@@ -3,8 +3,7 @@ use Rattle.std.proofs.Common.{◌≡◌, ℕ, ◌+◌, ◌<◌, ◌≤◌, Bool,
 use Rattle.std.specs.List.{AllByRecursion}
 use Rattle.std.proofs.lemmas.Result.{err_from_is_err_and}
 use Rattle.std.proofs.lemmas.Bool.{and_parts, cond-true, cond-false, le-ltb, leb-true, lt-ltb}
-use Rattle.ledger.specs.declared.entry.Entry.{Entry}
-use Rattle.store.specs.Months.{Month, first_short, has_reached}
+use Rattle.store.specs.Months.{first_short, has_reached}
 use Rattle.store.specs.declared.month.State.{State}
 use Rattle.tariff.specs.Pricing.{Meaning}
 use Rattle.tariff.specs.declared.refusal.Refusal.{Refusal}
@@ -14,7 +13,7 @@ use Rattle.book.specs.Calls.{Call, Reply}
 use Rattle.book.specs.NamedMonths.{IsInBook, IsChangeable}
 use Rattle.book.specs.Steps.{view_after, answer, reply_unless, reply, view_unless}
 use Rattle.book.specs.Table.{Row, blank_book, earlier_short, first_holding, month_final, no_such_month, refusal_of}
-use Rattle.book.specs.Views.{BilledPoint, View, month_has_reached, month_index}
+use Rattle.book.specs.Views.{View, month_has_reached, month_index}
 use Rattle.book.specs.declared.book.Book.{Book}
 use Rattle.book.specs.declared.book.NamedMonth.{NamedMonth}
 
@@ -34,11 +33,22 @@ pub first_holds : (before : List Row) (held : Row) (after : List Row) → AllByR
 first_holds [] held after all is = here held after is
 first_holds (row ∷ before) held after all is = pass row (before ++ held ∷ after) _ all.0 (first_holds before held after all.1 is)
 
+pub unaltered : (book : Book) → IsUnaltered book book
+unaltered book = record { point = refl; store = refl; ledger = refl }
+
+-- a book that nothing altered holds what it held
+unaltered_view : (book book' : Book) → IsUnaltered book book' → view book' ≡ view book
+unaltered_view book book' same =
+    let point = same.point in
+    let store = same.store in
+    let ledger = same.ledger in
+    cc
+
 module _ (meaning : Meaning) (call : Call) (book book' : Book) where
-  pub is_refused : (refusal : Refusal) → refusal_of meaning call (view book) ≡ Some refusal → IsUnaltered book book' → view book' ≡ view book → Performs meaning call book (Err refusal) book'
-  is_refused refusal by same seen = record {
+  pub is_refused : (refusal : Refusal) → refusal_of meaning call (view book) ≡ Some refusal → IsUnaltered book book' → Performs meaning call book (Err refusal) book'
+  is_refused refusal by same = record {
     answers = sym (ap (λ o. reply_unless o (reply meaning call (view book))) by);
-    leaves = seen ∙ sym (ap (λ o. view_unless o (view_after meaning call (view book)) (view book)) by);
+    leaves = unaltered_view book book' same ∙ sym (ap (λ o. view_unless o (view_after meaning call (view book)) (view book)) by);
     keeps = same;
   }
 
@@ -54,7 +64,7 @@ module _ (meaning : Meaning) (call : Call) (book : Book) (r : Result (Reply call
   pub is_refused_by : refusal_of meaning call (view book) ≡ Some refusal → Performs meaning call book r book
   is_refused_by by =
       let p = err_from_is_err_and r is in
-      rw p.1 (is_refused meaning call book book p.0 (by ∙ ap Some (sym p.2)) (refl, refl, refl) refl)
+      rw p.1 (is_refused meaning call book book p.0 (by ∙ ap Some (sym p.2)) (unaltered book))
 
 -- a month that was found passes the rows that every call with a month begins with
 module _ (m : ℕ) (v : View) (found : NamedMonth) where
@@ -72,11 +82,6 @@ module _ (meaning : Meaning) (call : Call) (book : Book) where
 
   pub answers_taken : (r : Reply call) → refusal_of meaning call (view book) ≡ None → r ≡ reply meaning call (view book) → Ok r ≡ answer meaning call (view book)
   answers_taken r by replied = ap Ok replied ∙ sym (ap (λ o. reply_unless o (reply meaning call (view book))) by)
-
--- two views, part by part
-module _ {point point' : Option BilledPoint} {before before' : List ℕ} {months months' : List Month} {ledger ledger' : List Entry} {capacity capacity' room room' : ℕ} where
-  pub same_view : point ≡ point' → before ≡ before' → months ≡ months' → ledger ≡ ledger' → capacity ≡ capacity' → room ≡ room' → ◌≡◌ {A = View} (record { point = point; before = before; months = months; ledger = ledger; capacity = capacity; room = room }) (record { point = point'; before = before'; months = months'; ledger = ledger'; capacity = capacity'; room = room' })
-  same_view p b m l c r = λ i. record { point = p i; before = b i; months = m i; ledger = l i; capacity = c i; room = r i }
 
 -- entries have the month's number, its place and one
 pub numbered : (m : ℕ) (v : View) (found : NamedMonth) → IsInBook m v found → found.number ≡ found.index + 1

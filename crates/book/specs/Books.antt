@@ -6,12 +6,17 @@ use Rattle.tariff.specs.Pricing.{Meaning}
 use Rattle.tariff.specs.declared.refusal.Refusal.{Refusal}
 use Rattle.book.specs.Calls.{Call, Reply}
 use Rattle.book.specs.Steps.{answer, step}
+use Rattle.book.specs.PointCodes.{code_bytes}
 use Rattle.book.specs.Views.{BilledPoint, View}
 use Rattle.book.specs.declared.book.Book.{Book}
 use Rattle.book.specs.declared.point.Point.{Point}
 
 abbrev pub point_of : Option Point → Option BilledPoint
-point_of (Some point) = Some (record { code = point.code; contract = point.contract; substation = point.substation })
+point_of (Some point) = Some (record {
+  code = code_bytes point.code;
+  contract = point.capacities.contract;
+  substation = point.capacities.substation;
+})
 point_of None = None
 
 abbrev pub view : Book → View
@@ -25,8 +30,10 @@ view book = record {
 }
 
 -- the same point, months and entries, with every record of the lent memory
-abbrev pub IsUnaltered : Book → Book → Type 0
-IsUnaltered book book' = (book'.point ≡ book.point) × (book'.store ≡ book.store) × (book'.ledger ≡ book.ledger)
+pub record IsUnaltered (book book' : Book) : Type 0 where
+  pub point : book'.point ≡ book.point
+  pub store : book'.store ≡ book.store
+  pub ledger : book'.ledger ≡ book.ledger
 
 -- what a call that changes nothing answers
 abbrev pub Answers : Meaning → (call : Call) → Book → Result (Reply call) Refusal → Type 0

@@ -3,6 +3,7 @@ pub mod Calls
 pub mod Memories
 pub mod NamedMonths
 pub mod OnFile
+pub mod PointCodes
 pub mod Posts
 pub mod Requests
 pub mod Steps

@@ -2,16 +2,17 @@
 use Rattle.std.specs.Prelude.{Ok, Err, Result}
 use Rattle.tariff.specs.declared.refusal.Refusal.{Refusal}
 use Rattle.book.specs.Calls.{Call, opens, starts, posts, posts_day, bills, trues_up, finalises, asks, Question, whether_due, line_total, Reply, ReplyTo}
+use Rattle.book.specs.PointCodes.{code_bytes}
 use Rattle.book.specs.declared.request.Answer.{Answer}
 use Rattle.book.specs.declared.request.Answer.TheVariants.{Done, Started, Written, IsDue, Sum, Refused}
 use Rattle.book.specs.declared.request.Request.{Request}
 use Rattle.book.specs.declared.request.Request.TheVariants.{Open, Start, Post, PostDay, Bill, TrueUp, Finalise, Due, Total}
 
 abbrev pub call_of : Request → Call
-call_of (Open code contract substation carried) = opens code contract substation carried.now
+call_of (Open code contract substation carried) = opens (code_bytes code) contract substation carried.now
 call_of (Start days) = starts days
 call_of (Post m place post) = posts m place post
-call_of (PostDay m day code readings) = posts_day m day code readings.now
+call_of (PostDay m day code readings) = posts_day m day (code_bytes code) readings.now
 call_of (Bill m) = bills m
 call_of (TrueUp m) = trues_up m
 call_of (Finalise m) = finalises m

@@ -3,7 +3,8 @@ use Rattle.std.specs.Prelude.{ℕ, ◌-◌, Bool, ◌&&◌, List, [], map, lengt
 use Rattle.std.specs.List.{range_with_len}
 use Rattle.ledger.specs.Entries.{first_differing, sums}
 use Rattle.ledger.specs.declared.entry.Entry.{Entry}
-use Rattle.store.specs.Months.{Month, earlier_peaks, peak_kva, ratchet_peak, hour_rows, no_month, peak, has_reached}
+use Rattle.store.specs.Facts.{facts_of_month}
+use Rattle.store.specs.Months.{Month, earlier_peaks, hour_rows, no_month, has_reached}
 use Rattle.store.specs.declared.month.State.{State}
 use Rattle.tariff.specs.Limits.{line_count}
 use Rattle.tariff.specs.Pricing.{Meaning, Outcome}
@@ -61,13 +62,7 @@ substation_of None = 0
 
 -- the facts of a month follow from the file alone, as it stands
 unfoldable pub facts_of : View → ℕ → PlainFacts
-facts_of v m = record {
-  contract = contract_of v.point;
-  substation = substation_of v.point;
-  peak = peak (month_at m v);
-  peak_kva = peak_kva (month_at m v);
-  ratchet_peak = ratchet_peak v.before v.months (month_index m);
-}
+facts_of v m = facts_of_month (contract_of v.point) (substation_of v.point) v.before v.months (month_index m)
 
 -- what a schedule makes of the file, as it stands
 unfoldable pub month_outcome : Meaning → View → ℕ → Outcome

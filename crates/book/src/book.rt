@@ -10,8 +10,8 @@ ghost use Rattle.tariff.specs.declared.refusal.Refusal.TheVariants.{BookBlank};
 
 use crate::point::Point;
 use ledger::{Entry, Ledger};
-use store::{Demand, Hour, Quarter, State, Store};
-use tariff::{Amounts, Facts, PlainFacts, Refusal, Schedule};
+use store::{Hour, Quarter, State, Store};
+use tariff::{Amounts, Facts, Refusal, Schedule};
 
 /// The months on file and the ledger of one point, over lent memory; blank until it is opened. A
 /// refused call leaves it as it was.
@@ -121,20 +121,9 @@ impl<'a> Book<'a> {
         requires { IsInBook named.now.month (view self.now) named.now }
         ensures { result.plain ≡ facts_of (view self.now) named.now.month }
     {
-        let Demand {
-            peak,
-            peak_kva,
-            ratchet_peak,
-        } = self.store.demand(named.index).unwrap();
-        Facts {
-            plain: PlainFacts {
-                contract: named.point.contract,
-                substation: named.point.substation,
-                peak,
-                peak_kva,
-                ratchet_peak,
-            },
-        }
+        self.store
+            .facts(named.index, named.point.capacities)
+            .unwrap()
     }
 
     // The price of a month, as the file stands. A schedule's fault is refused with the month.

@@ -4,11 +4,12 @@ ghost use Rattle.tariff.specs.Pricing.{Meaning};
 
 use crate::book::Book;
 use crate::point::{Point, PointCode};
-use tariff::{MOST_DEMAND, Refusal};
+use tariff::{Capacities, Refusal};
 
 impl Book<'_> {
     ghost use Rattle.book.specs.Books.{Performs};
     ghost use Rattle.book.specs.Calls.{opens, starts};
+    ghost use Rattle.book.specs.PointCodes.{code_bytes};
 
     /// Opens a blank book for a point: its code, its contract and its substation total in kW, with
     /// 1 ≤ contract ≤ substation ≤ 1,000,000, and the peaks in kW of the months before month 1, the
@@ -21,20 +22,14 @@ impl Book<'_> {
         carried: &[u32],
     ) -> Result<(), Refusal>
         ensures { (meaning : Meaning)
-            → Performs meaning (opens code contract substation carried.now) self.old result self.new }
+            → Performs meaning (opens (code_bytes code) contract substation carried.now) self.old result self.new }
     {
         if self.point.is_some() {
             return Err(Refusal::BookOpen);
         }
-        if contract < 1 || substation < contract || MOST_DEMAND < substation {
-            return Err(Refusal::OpeningOutside);
-        }
+        let capacities = Capacities::new(contract, substation).ok_or(Refusal::OpeningOutside)?;
         self.store.carry(carried)?;
-        self.point = Some(Point {
-            code,
-            contract,
-            substation,
-        });
+        self.point = Some(Point { code, capacities });
         Ok(())
     }
 

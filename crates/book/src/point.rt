@@ -1,10 +1,9 @@
 // The point that a book bills.
-ghost use Rattle.std.specs.Prelude.{◌≡◌, ◌≤◌, ◌≢◌, List, ℕ, length, MatchResult};
-ghost use Rattle.tariff.specs.Limits.{most_demand};
+ghost use Rattle.std.specs.Prelude.{◌≡◌, ◌≢◌, length, MatchResult};
 
 use std::error::Error;
 use std::fmt;
-use std::marker::Model;
+use tariff::Capacities;
 
 /// The code of a point, as its operator names it: eight bytes.
 #[derive(Clone, Copy, PartialEq, Eq, Debug)]
@@ -12,25 +11,21 @@ pub struct PointCode {
     bytes: [u8; 8],
 }
 
-impl Model for PointCode {
-    ghost Value = { List ℕ };
-
-    ghost view = { λ code. code.bytes };
-
-    ghost inverse = { λ bytes. record { bytes = bytes } };
-}
-
 impl PointCode {
+    ghost use Rattle.book.specs.PointCodes.{code_bytes};
+
     /// Its bytes, in their order.
     pub fn bytes(self) -> [u8; 8]
-        ensures { result ≡ self }
+        ensures { result ≡ code_bytes self }
     {
         self.bytes
     }
 }
 
 impl From<[u8; 8]> for PointCode {
-    ghost from_gives = { λ bytes code. code ≡ bytes };
+    ghost use Rattle.book.specs.PointCodes.{code_bytes};
+
+    ghost from_gives = { λ bytes code. code_bytes code ≡ bytes };
 
     fn from(bytes: [u8; 8]) -> PointCode {
         PointCode { bytes }
@@ -52,7 +47,9 @@ impl Error for NotPointCode {}
 impl TryFrom<&str> for PointCode {
     type Error = NotPointCode;
 
-    ghost try_from_gives = { λ text result. MatchResult result (λ code. code ≡ text.now) (λ _. length text.now ≢ 8) };
+    ghost use Rattle.book.specs.PointCodes.{code_bytes};
+
+    ghost try_from_gives = { λ text result. MatchResult result (λ code. code_bytes code ≡ text.now) (λ _. length text.now ≢ 8) };
 
     fn try_from(text: &str) -> Result<PointCode, NotPointCode> {
         let bytes = <[u8; 8]>::try_from(text.as_bytes()).map_err(|_| NotPointCode)?;
@@ -60,21 +57,20 @@ impl TryFrom<&str> for PointCode {
     }
 }
 
-// A point's contract and substation total are in kW, each within its limits.
+// The point that is billed: its code, and what is contracted at it.
 #[derive(Clone, Copy)]
 pub(crate) struct Point {
     pub(crate) code: PointCode,
-    pub(crate) contract: u32,
-    pub(crate) substation: u32,
-    ghost within: { (1 ≤ contract) × (contract ≤ substation) × (substation ≤ most_demand) },
+    pub(crate) capacities: Capacities,
 }
 
 impl Point {
     ghost use Rattle.std.specs.Str.{bytes_eq};
+    ghost use Rattle.book.specs.PointCodes.{code_bytes};
 
     pub(crate) fn has_code(&self, code: PointCode) -> bool
-        ensures { result ≡ bytes_eq code self.now.code }
+        ensures { result ≡ bytes_eq (code_bytes code) (code_bytes self.now.code) }
     {
-        code == self.code
+        code.bytes == self.code.bytes
     }
 }

@@ -27,6 +27,7 @@ fn post_refusal(month: u32, place: u32, error: PostError) -> Refusal
 impl Book<'_> {
     ghost use Rattle.book.specs.Books.{Performs};
     ghost use Rattle.book.specs.Calls.{posts, posts_day};
+    ghost use Rattle.book.specs.PointCodes.{code_bytes};
 
     /// Posts to a quarter or an hour of a month, from 0. Refused where the month is final, where it
     /// has no such quarter or hour, and where what is posted is outside its limit.
@@ -50,7 +51,7 @@ impl Book<'_> {
         readings: &[Reading],
     ) -> Result<(), Refusal>
         ensures { (meaning : Meaning)
-            → Performs meaning (posts_day month day code readings.now) self.old result self.new }
+            → Performs meaning (posts_day month day (code_bytes code) readings.now) self.old result self.new }
     {
         let named = self.changeable_month(month)?;
         // a day that is not there is refused before the code is: by the store

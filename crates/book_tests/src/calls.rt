@@ -7,7 +7,7 @@ use rates::dts::DtsSheet;
 use riders::Rider;
 use riders::energy::EnergySheet;
 use std::process::Abort;
-use store::Reading;
+use store::{Post, Reading};
 use tariff::{Numbers, Refusal, Schedule};
 
 // What a month is priced by.
@@ -84,7 +84,7 @@ fn post_day(
     {
         readings[at] = Reading { kw: 2, kva: 1 };
     }
-    book.post_day(month, day, code, &readings[..count.min(97)])
+    book.post_day(month, day, code.into(), &readings[..count.min(97)])
 }
 
 fn done(_reply: ()) -> Reply {
@@ -125,7 +125,7 @@ fn ask_priced(book: &mut Book<'_>, ask: Ask, month: u32, by: By) -> Result<Reply
 fn make(book: &mut Book<'_>, call: Call) -> Result<Reply, Refusal> {
     match call {
         Call::Open(contract, substation) => book
-            .open(CODE, contract, substation, &[30_000])
+            .open(CODE.into(), contract, substation, &[30_000])
             .map(done),
         Call::Start(days) => book.start(days).map(Reply::Started),
         Call::Full => start_full(book).map(Reply::Started),
@@ -133,16 +133,16 @@ fn make(book: &mut Book<'_>, call: Call) -> Result<Reply, Refusal> {
             fill(book, month, days, Reading { kw, kva: kw }, price).map(done)
         }
         Call::Reading(month, quarter, kw, kva) => book
-            .post_reading(month, quarter, Reading { kw, kva })
+            .post(month, quarter, Post::Reading(Reading { kw, kva }))
             .map(done),
         Call::Day(month, day, code, count, spoilt) => {
             post_day(book, month, day, code, count, spoilt).map(done)
         }
-        Call::Price(month, hour, price) => book.post_price(month, hour, price).map(done),
-        Call::Scheduled(month, hour, kw) => book.post_schedule(month, hour, kw).map(done),
+        Call::Price(month, hour, price) => book.post(month, hour, Post::Price(price)).map(done),
+        Call::Scheduled(month, hour, kw) => book.post(month, hour, Post::Scheduled(kw)).map(done),
         Call::Priced(ask, month, by) => ask_priced(book, ask, month, by),
         Call::Total(month, line) => book.total(month, line).map(Reply::Sum),
-        Call::Entries => Ok(Reply::Entries(book.ledger().len())),
+        Call::Entries => Ok(Reply::Entries(book.ledger().slice.len())),
     }
 }
 

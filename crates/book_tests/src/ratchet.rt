@@ -2,7 +2,7 @@
 use crate::sheets::capacity;
 use crate::support::{CODE, Memory, fill};
 use book::Book;
-use store::Reading;
+use store::{Post, Reading};
 use tariff::Refusal;
 
 // The load of a month that sets no peak.
@@ -25,13 +25,13 @@ fn capacity_billed(book: &mut Book<'_>) -> Result<i64, Refusal> {
 fn a_peak_is_gone_in_the_25th_month(rt: HostRuntime) -> Result<(), Refusal> {
     let mut memory = Memory::<77376, 19344, 364>::new();
     let mut book = memory.book();
-    book.open(CODE, 1, 1, &[])?;
+    book.open(CODE.into(), 1, 1, &[])?;
     assert_eq!(rt; capacity_billed(&mut book)?, 10_000);
     let high = Reading {
         kw: 30_000,
         kva: 30_000,
     };
-    book.post_reading(1, 0, high)?;
+    book.post(1, 0, Post::Reading(high))?;
     for _month in 2..26 {
         assert_eq!(rt; capacity_billed(&mut book)?, 270_000);
     }
@@ -47,7 +47,7 @@ fn carried_peaks_age_out(rt: HostRuntime) -> Result<(), Refusal> {
     let mut carried = [0; 24];
     carried[0] = 20_000;
     carried[23] = 50_000;
-    book.open(CODE, 1, 1, &carried)?;
+    book.open(CODE.into(), 1, 1, &carried)?;
     assert_eq!(rt; capacity_billed(&mut book)?, 450_000);
     for _month in 2..25 {
         assert_eq!(rt; capacity_billed(&mut book)?, 180_000);

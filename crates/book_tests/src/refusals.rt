@@ -51,11 +51,11 @@ fn a_blank_book_takes_open_alone(rt: HostRuntime) {
 fn carried_peaks_have_limits(rt: HostRuntime) {
     let mut memory = Memory::<0, 0, 0>::new();
     let mut book = memory.book();
-    let many = book.open(CODE, 1, 1, &[0; 25]);
+    let many = book.open(CODE.into(), 1, 1, &[0; 25]);
     assert_eq!(rt; many.err().map(|refusal| refusal.numbers().number), Some(3));
-    let high = book.open(CODE, 1, 1, &[0, 1_000_001]);
+    let high = book.open(CODE.into(), 1, 1, &[0, 1_000_001]);
     assert_eq!(rt; high.err().map(|refusal| refusal.numbers().number), Some(3));
-    assert!(rt; book.open(CODE, 1, 1, &[1_000_000; 24]).is_ok());
+    assert!(rt; book.open(CODE.into(), 1, 1, &[1_000_000; 24]).is_ok());
 }
 
 #[test]
@@ -193,7 +193,7 @@ fn a_bill_wants_readings_and_prices(rt: HostRuntime) -> Result<(), Fail> {
         ],
     );
     for day in 2..30 {
-        book.post_day(1, day, CODE, &[USUAL; 96])
+        book.post_day(1, day, CODE.into(), &[USUAL; 96])
             .map_err(|_| "a day was refused")?;
     }
     run(

@@ -1,7 +1,7 @@
 // What the tests share.
 use book::Book;
 use ledger::{Entry, EntryKind};
-use store::{Hour, Quarter, Reading};
+use store::{DAY_HOURS, DAY_QUARTERS, Hour, Post, Quarter, Reading};
 use tariff::{LINES, Line, Refusal};
 
 // The code of the point.
@@ -58,10 +58,10 @@ pub(crate) fn fill(
     price: u32,
 ) -> Result<(), Refusal> {
     for day in 0..u32::from(days) {
-        book.post_day(month, day, CODE, &[reading; 96])?;
+        book.post_day(month, day, CODE.into(), &[reading; DAY_QUARTERS])?;
     }
-    for hour in 0..24 * u32::from(days) {
-        book.post_price(month, hour, price)?;
+    for hour in 0..DAY_HOURS as u32 * u32::from(days) {
+        book.post(month, hour, Post::Price(price))?;
     }
     Ok(())
 }
@@ -74,7 +74,7 @@ pub(crate) fn start_full(book: &mut Book<'_>) -> Result<u32, Refusal> {
         kva: 30_000,
     };
     fill(book, month, 30, USUAL, 5_000)?;
-    book.post_reading(month, 0, first)?;
+    book.post(month, 0, Post::Reading(first))?;
     Ok(month)
 }
 

@@ -4,7 +4,7 @@ use book::Book;
 use ledger::{Entry, EntryKind, MOST_BYTES};
 use rates::dts::DTS_2007;
 use std::test::Fail;
-use store::Reading;
+use store::{Post, Reading};
 use tariff::{Draft, Refusal};
 
 // What stands in the bytes before a call.
@@ -12,7 +12,7 @@ const INK: u8 = b'#';
 
 // A ledger with the bill of the usual month.
 fn billed(book: &mut Book<'_>) -> Result<(), Refusal> {
-    book.open(CODE, 20_000, 30_000, &[30_000])?;
+    book.open(CODE.into(), 20_000, 30_000, &[30_000])?;
     let month = start_full(book)?;
     book.bill(month, &DTS_2007.seal()?)?;
     Ok(())
@@ -44,7 +44,7 @@ fn a_sign_is_printed(rt: HostRuntime) {
         kw: 20_000,
         kva: 22_000,
     };
-    assert_eq!(rt; book.post_reading(1, 0, late), Ok(()));
+    assert_eq!(rt; book.post(1, 0, Post::Reading(late)), Ok(()));
     assert_eq!(rt; trued_up(&mut book), Ok(5));
     let mut bytes = [INK; MOST_BYTES];
     assert_eq!(rt; book.text(18, &mut bytes), Ok(13));

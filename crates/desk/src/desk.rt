@@ -1,20 +1,21 @@
 // The desk: a book, the schedule that prices it, and the calls of a journal performed on them.
+use crate::line_error::LineError;
 use crate::loading::load;
-use crate::schedule::{Chosen, Unchosen};
+use crate::schedule::ChosenSchedule;
 use crate::statement::Statement;
-use crate::task::{Run, Task, posting};
 use anyhow::Result;
-use audit::{Answer, Request, perform};
-use book::Book;
-use journal::{Call, Post};
+use book::{Answer, Book, PointCode, Request, perform};
+use journal::{Call, Verb};
 use ledger::MOST_BYTES;
+use piles::PileError;
 use std::alloc::Global;
-use std::io::{self, Write};
+use std::io::Write;
+use store::Post;
 use tariff::Refusal;
 
-// Where the desk's files and memory come from.
+/// Where the desk's files and memory come from.
 #[derive(Clone, Copy)]
-pub(crate) struct Place<'r> {
+pub(crate) struct Surroundings<'r> {
     pub(crate) rt: &'r HostRuntime,
     // the folder of the journal, where the files lie that it loads
     pub(crate) folder: &'r str,
@@ -23,119 +24,162 @@ pub(crate) struct Place<'r> {
 #[derive(Drop)]
 pub(crate) struct Desk<'b> {
     book: Book<'b>,
-    chosen: Chosen,
+    schedule: ChosenSchedule,
 }
 
 impl<'b> Desk<'b> {
-    pub(crate) fn new(book: Book<'b>, mut chosen: Chosen) -> Desk<'b> {
-        chosen.used();
-        Desk { book, chosen }
+    pub(crate) fn new(book: Book<'b>, mut schedule: ChosenSchedule) -> Desk<'b> {
+        schedule.put_in_use();
+        Desk { book, schedule }
     }
 
-    // Whether another schedule prices than the first.
+    /// Whether another schedule prices than the first.
     pub(crate) fn has_changed(&self) -> bool {
-        self.chosen.has_changed()
+        self.schedule.has_changed()
     }
 
-    // Performs a call and writes what it answers.
+    /// Performs a call and writes what it answers.
     pub(crate) fn perform<W: Write>(
         &mut self,
-        place: Place<'_>,
+        surroundings: Surroundings<'_>,
         call: &Call<'_>,
         out: &mut W,
     ) -> Result<()> {
-        let alloc = place.rt.alloc();
-        match Task::of(call)? {
-            Task::Begin(rate) => write_choice(out, self.chosen.begin(alloc, rate))?,
-            Task::Lay(rider) => write_choice(out, self.chosen.lay(rider))?,
-            Task::Ask(request) => self.ask(request, out)?,
-            Task::Post(run) => write_count(out, self.post_run(run), run.count())?,
-            Task::Load { what, month, file } => {
-                let posts = load(place, what, file)?;
-                write_count(out, self.post_list(month, &posts), posts.len() as u64)?;
+        let alloc = surroundings.rt.alloc();
+        // what the desk does itself is answered at once, and the rest is asked of the book
+        let request = match *call {
+            // memory is given before the book is made
+            Call::Memory { .. } => return Err(LineError::LateMemory.into()),
+            Call::Rate(rate) => return write_chosen(out, self.schedule.begin(alloc, rate)),
+            Call::Rider(rider) => return write_chosen(out, self.schedule.lay(rider)),
+            Call::PostRange {
+                month,
+                first,
+                last,
+                post,
+            } => {
+                let count = (u64::from(last) + 1).saturating_sub(first.into());
+                return write_count(out, self.post_range(month, first, last, post), count);
             }
-            Task::Text(entry) => self.write_text(entry, out)?,
-            Task::Ledger => self.write_ledger(out)?,
-            Task::Statement(month) => self.write_statement(alloc, month, out)?,
-        }
-        Ok(())
-    }
-
-    fn ask<W: Write>(&mut self, request: Request<'_>, out: &mut W) -> io::Result<()> {
-        match perform(&mut self.book, &self.chosen.pile, request) {
-            Answer::Begun | Answer::Done => writeln!(out, "ok"),
-            Answer::Started(month) => writeln!(out, "ok {month}"),
-            Answer::Written(entries) => writeln!(out, "ok {entries}"),
-            Answer::IsDue(true) => writeln!(out, "ok yes"),
-            Answer::IsDue(false) => writeln!(out, "ok no"),
-            Answer::Sum(cents) => writeln!(out, "ok {cents}"),
-            Answer::Refused(refusal) => writeln!(out, "{refusal}"),
-        }
-    }
-
-    fn post(&mut self, post: Request<'_>) -> Result<(), Refusal> {
-        match perform(&mut self.book, &self.chosen.pile, post) {
-            Answer::Refused(refusal) => Err(refusal),
-            _ => Ok(()),
-        }
+            Call::Load { kind, month, file } => {
+                let posts = load(surroundings, kind, file)?;
+                return write_count(out, self.post_list(month, &posts), posts.len() as u64);
+            }
+            Call::Text { entry } => return self.write_text(entry, out),
+            Call::Ledger => return self.write_ledger(out),
+            Call::Statement { month } => return self.write_statement(alloc, month, out),
+            Call::Open {
+                code,
+                contract,
+                substation,
+                ref carried,
+            } => Request::Open {
+                code: point_code(code, Verb::Open)?,
+                contract,
+                substation,
+                carried: &carried[..],
+            },
+            Call::PostDay {
+                month,
+                day,
+                code,
+                ref readings,
+            } => Request::PostDay {
+                month,
+                day,
+                code: point_code(code, Verb::Day)?,
+                readings: &readings[..],
+            },
+            Call::Post { month, place, post } => Request::Post { month, place, post },
+            Call::Start { days } => Request::Start { days },
+            Call::Bill { month } => Request::Bill { month },
+            Call::TrueUp { month } => Request::TrueUp { month },
+            Call::Finalise { month } => Request::Finalise { month },
+            Call::Due { month } => Request::Due { month },
+            Call::Total { month, line } => Request::Total { month, line },
+        };
+        let answer = perform(&mut self.book, &self.schedule.pile, request);
+        write_answer(out, &answer)
     }
 
     // Posts place after place, up to the first that is refused.
-    fn post_run(&mut self, run: Run) -> Result<(), Refusal> {
-        for place in run.first..=run.last {
-            self.post(run.at(place))?;
+    fn post_range(&mut self, month: u32, first: u32, last: u32, post: Post) -> Result<(), Refusal> {
+        for place in first..=last {
+            self.book.post(month, place, post)?;
         }
         Ok(())
     }
 
-    fn post_list(&mut self, month: u32, posts: &[Post]) -> Result<(), Refusal> {
-        for post in posts {
-            self.post(posting(month, *post))?;
+    fn post_list(&mut self, month: u32, posts: &[(u32, Post)]) -> Result<(), Refusal> {
+        for (place, post) in posts {
+            self.book.post(month, *place, *post)?;
         }
         Ok(())
     }
 
-    fn write_text<W: Write>(&self, entry: u32, out: &mut W) -> io::Result<()> {
+    fn write_text<W: Write>(&self, entry: u32, out: &mut W) -> Result<()> {
         let mut line = [0; MOST_BYTES];
         match self.book.text(entry, &mut line) {
-            Ok(length) => out.write_all(&line[..length]),
-            Err(refusal) => writeln!(out, "{refusal}"),
+            Ok(length) => out.write_all(&line[..length])?,
+            Err(refusal) => writeln!(out, "{refusal}")?,
         }
+        Ok(())
     }
 
-    // All entries, up to the number that has none.
-    fn write_ledger<W: Write>(&self, out: &mut W) -> io::Result<()> {
+    // All entries; a blank book has no ledger to be asked for.
+    fn write_ledger<W: Write>(&self, out: &mut W) -> Result<()> {
         let mut line = [0; MOST_BYTES];
-        for entry in 0..=u32::MAX {
-            match self.book.text(entry, &mut line) {
-                Ok(length) => out.write_all(&line[..length])?,
-                Err(Refusal::NoSuchPlace { .. }) => break,
-                Err(refusal) => return writeln!(out, "{refusal}"),
+        if let Err(blank @ Refusal::BookBlank { .. }) = self.book.text(0, &mut line) {
+            writeln!(out, "{blank}")?;
+        }
+        let entries = self.book.ledger();
+        for entry in 0..entries.slice.len() {
+            if let Ok(length) = entries.text(entry, &mut line) {
+                out.write_all(&line[..length])?;
             }
         }
         Ok(())
     }
 
     fn write_statement<W: Write>(&self, alloc: Global, month: u32, out: &mut W) -> Result<()> {
-        match Statement::new(&self.book, month, &self.chosen.pile) {
+        match Statement::new(&self.book, month, &self.schedule.pile) {
             Ok(statement) => statement.write(alloc, out),
             Err(refusal) => Ok(writeln!(out, "{refusal}")?),
         }
     }
 }
 
-pub(crate) fn write_choice<W: Write>(out: &mut W, chosen: Result<(), Unchosen>) -> Result<()> {
+// The code of a point, of a call of this verb.
+fn point_code(code: &str, verb: Verb) -> Result<PointCode, LineError> {
+    PointCode::try_from(code).map_err(|_| LineError::Code(verb))
+}
+
+pub(crate) fn write_chosen<W: Write>(out: &mut W, chosen: Result<(), PileError>) -> Result<()> {
     match chosen {
         Ok(()) => writeln!(out, "ok")?,
-        Err(Unchosen::Refused(refusal)) => writeln!(out, "{refusal}")?,
-        Err(Unchosen::OutOfMemory(error)) => return Err(error.into()),
+        Err(PileError::Refused(refusal)) => writeln!(out, "{refusal}")?,
+        Err(PileError::OutOfMemory(error)) => return Err(error.into()),
     }
     Ok(())
 }
 
-fn write_count<W: Write>(out: &mut W, posted: Result<(), Refusal>, count: u64) -> io::Result<()> {
+fn write_count<W: Write>(out: &mut W, posted: Result<(), Refusal>, count: u64) -> Result<()> {
     match posted {
-        Ok(()) => writeln!(out, "ok {count}"),
-        Err(refusal) => writeln!(out, "{refusal}"),
+        Ok(()) => writeln!(out, "ok {count}")?,
+        Err(refusal) => writeln!(out, "{refusal}")?,
     }
+    Ok(())
+}
+
+fn write_answer<W: Write>(out: &mut W, answer: &Answer) -> Result<()> {
+    match answer {
+        Answer::Begun | Answer::Done => writeln!(out, "ok")?,
+        Answer::Started(month) => writeln!(out, "ok {month}")?,
+        Answer::Written(entries) => writeln!(out, "ok {entries}")?,
+        Answer::IsDue(true) => writeln!(out, "ok yes")?,
+        Answer::IsDue(false) => writeln!(out, "ok no")?,
+        Answer::Sum(cents) => writeln!(out, "ok {cents}")?,
+        Answer::Refused(refusal) => writeln!(out, "{refusal}")?,
+    }
+    Ok(())
 }

@@ -1,9 +1,9 @@
 // Amounts as people read them.
 use std::fmt;
 
-// Cents in dollars: `-1234.05`.
-#[derive(Clone, Copy)]
-pub(crate) struct Dollars(pub(crate) i64);
+/// Cents in dollars: `-1234.05`.
+#[derive(Clone, Copy, PartialEq, Eq, Debug)]
+pub(crate) struct Dollars(pub(crate) i128);
 
 impl fmt::Display for Dollars {
     fn fmt<W: fmt::Write>(&self, f: &mut fmt::Formatter<W>) -> fmt::Result {

@@ -12,31 +12,7 @@ A journal has one call a line, words apart by spaces; # begins a comment. Memory
 first. Each call answers a line: ok and what it comes to, or refused NUMBER MONTH PLACE RIDER.
 ";
 
-// In the order in which a journal has use for them.
-const VERBS: [Verb; 21] = [
-    Verb::Memory,
-    Verb::Rate,
-    Verb::Rider,
-    Verb::Open,
-    Verb::Start,
-    Verb::Reading,
-    Verb::Readings,
-    Verb::Day,
-    Verb::Price,
-    Verb::Prices,
-    Verb::Schedule,
-    Verb::Schedules,
-    Verb::Load,
-    Verb::Bill,
-    Verb::TrueUp,
-    Verb::Finalise,
-    Verb::Due,
-    Verb::Total,
-    Verb::Text,
-    Verb::Ledger,
-    Verb::Statement,
-];
-
+// What a call is for.
 fn note(verb: Verb) -> &'static str {
     match verb {
         Verb::Memory => "what the book has room for; 48 and 2000 where this is left out",
@@ -65,7 +41,7 @@ fn note(verb: Verb) -> &'static str {
 
 pub(crate) fn print_help(rt: &impl Print) -> io::Result<()> {
     println!(rt; "{USAGE}")?;
-    for verb in VERBS.iter() {
+    for verb in Verb::ALL.iter() {
         let form = verb.form();
         let note = note(*verb);
         println!(rt; "    {form}\n        {note}")?;

@@ -1,19 +1,24 @@
 // The files that a journal loads.
-use crate::desk::Place;
+use crate::desk::Surroundings;
 use anyhow::{Context, Result};
-use journal::{Post, Posts};
+use journal::PostKind;
 use std::fs;
+use store::Post;
 
-// The posts of a file, in its order; none where one of its lines is no post.
-pub(crate) fn load(place: Place<'_>, what: Posts, file: &str) -> Result<Vec<Post>> {
-    let alloc = place.rt.alloc();
-    let path = format!(in alloc; "{}{file}", place.folder)?;
-    let text = fs::read_to_string(place.rt, path.as_str()).context(format_args!(
+/// The posts of a file with their places, in its order; none where one of its lines is no post.
+pub(crate) fn load(
+    surroundings: Surroundings<'_>,
+    kind: PostKind,
+    file: &str,
+) -> Result<Vec<(u32, Post)>> {
+    let alloc = surroundings.rt.alloc();
+    let path = format!(in alloc; "{}{file}", surroundings.folder)?;
+    let text = fs::read_to_string(surroundings.rt, path.as_str()).context(format_args!(
         "cannot read {file}"
     ))?;
     let mut posts = Vec::new(alloc);
     for (i, line) in text.lines().enumerate() {
-        let read = what.read(line);
+        let read = kind.read(line);
         if let Some(post) = read.context(format_args!("{file} line {}", i + 1))? {
             posts.push(post)?;
         }

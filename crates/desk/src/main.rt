@@ -1,22 +1,20 @@
-// The desk: a book kept as a plain-text journal, which is read and performed line by line.
+//! The desk: a book kept as a plain-text journal, which is read and performed line by line.
 
 #![tactic(auto)]
 
 mod desk;
 mod dollars;
 mod help;
+mod line_error;
 mod loading;
 mod meanings;
-mod misread;
-mod room;
 mod running;
 mod schedule;
 mod statement;
-mod task;
 #[cfg(test)]
 mod tests;
 
-use crate::desk::Place;
+use crate::desk::Surroundings;
 use crate::help::print_help;
 use crate::running::run;
 use anyhow::{Context, Result, bail};
@@ -25,7 +23,7 @@ use std::process::ExitCode;
 use std::{env, fs};
 
 fn explain(rt: &HostRuntime, number: &str) -> Result<()> {
-    let meaning = number.parse().ok().and_then(meanings::meaning);
+    let meaning = number.parse().ok().and_then(meanings::meaning_of);
     println!(rt;
         "{}",
         meaning.context("refusals are numbered from 1 to 19")?
@@ -36,7 +34,7 @@ fn explain(rt: &HostRuntime, number: &str) -> Result<()> {
 // Performs a journal; what it answered before it stopped is written all the same.
 fn perform(rt: &HostRuntime, folder: &str, journal: &str) -> Result<()> {
     let mut out = BufWriter::new(rt.alloc(), io::writer(rt))?;
-    let ended = run(Place { rt, folder }, journal, &mut out);
+    let ended = run(Surroundings { rt, folder }, journal, &mut out);
     out.flush()?;
     ended
 }

@@ -1,29 +1,26 @@
 // A journal performed from its first line to its last.
-use crate::desk::{Desk, Place, write_choice};
-use crate::misread::Unread;
-use crate::room::Room;
-use crate::schedule::Chosen;
+use crate::desk::{Desk, Surroundings, write_chosen};
+use crate::line_error::LineError;
+use crate::schedule::ChosenSchedule;
 use anyhow::{Context, Result};
-use book::Book;
+use book::BookMemory;
 use journal::{Call, read};
-use ledger::{Entry, EntryKind};
 use std::alloc::Global;
 use std::io::Write;
-use store::{Hour, Quarter};
+use store::MOST_MONTHS;
 
-// What the ledger's memory holds before an entry is written.
-const UNWRITTEN: Entry = Entry {
-    month: 0,
-    kind: EntryKind::Bill,
-    line: 0,
-    cents: 0,
-};
+// Four years, and as many true-ups as such years have.
+const USUAL_MONTHS: u32 = MOST_MONTHS as u32;
 
-// What stands before the book's first call.
+const USUAL_ENTRIES: u32 = 2000;
+
+// What stands before the book's first call: how many months and entries there is room for, and what
+// prices.
 #[derive(Drop)]
 struct Beginning {
-    room: Room,
-    chosen: Chosen,
+    months: u32,
+    entries: u32,
+    schedule: ChosenSchedule,
 }
 
 // The promise over runs is for one schedule throughout. It is said once where another begins.
@@ -37,7 +34,8 @@ impl Notice {
         if changed && !self.given {
             self.given = true;
             eprintln!(rt;
-                "journal line {number}: another schedule prices from here on; what is promised over a run is for one schedule throughout"
+                "journal line {number}: another schedule prices from here on; \
+                 what is promised over a run is for one schedule throughout"
             )?;
         }
         Ok(())
@@ -46,39 +44,40 @@ impl Notice {
 
 // The call that a line writes down, if it is not empty.
 fn call(alloc: Global, number: usize, line: &str) -> Result<Option<Call<'_>>> {
-    let read = read(alloc, line).map_err(Unread::from);
+    let read = read(alloc, line).map_err(LineError::from);
     read.context(format_args!("journal line {number}"))
 }
 
 // Performs the lines before the book's first call, and says how many they are.
 fn begin<W: Write>(
-    place: Place<'_>,
+    surroundings: Surroundings<'_>,
     lines: &[&str],
     beginning: &mut Beginning,
     notice: &mut Notice,
     out: &mut W,
 ) -> Result<usize> {
-    let Beginning { room, chosen } = beginning;
+    let alloc = surroundings.rt.alloc();
     for (i, line) in lines.iter().enumerate() {
-        let alloc = place.rt.alloc();
-        match call(place.rt.alloc(), i + 1, line)? {
+        let schedule = &mut beginning.schedule;
+        match call(alloc, i + 1, line)? {
             None => {}
             Some(Call::Memory { months, entries }) => {
-                *room = Room { months, entries };
+                beginning.months = months;
+                beginning.entries = entries;
                 writeln!(out, "ok")?;
             }
-            Some(Call::Rate(rate)) => write_choice(out, chosen.begin(alloc, rate))?,
-            Some(Call::Rider(rider)) => write_choice(out, chosen.lay(rider))?,
+            Some(Call::Rate(rate)) => write_chosen(out, schedule.begin(alloc, rate))?,
+            Some(Call::Rider(rider)) => write_chosen(out, schedule.lay(rider))?,
             Some(_) => return Ok(i),
         }
-        notice.give(place.rt, chosen.has_changed(), i + 1)?;
+        notice.give(surroundings.rt, beginning.schedule.has_changed(), i + 1)?;
     }
     Ok(lines.len())
 }
 
 // Performs the lines from the book's first call on.
 fn go_on<W: Write>(
-    place: Place<'_>,
+    surroundings: Surroundings<'_>,
     lines: &[&str],
     begun: usize,
     desk: &mut Desk<'_>,
@@ -86,28 +85,35 @@ fn go_on<W: Write>(
     out: &mut W,
 ) -> Result<()> {
     for (i, line) in lines.iter().enumerate().skip(begun) {
-        if let Some(call) = call(place.rt.alloc(), i + 1, line)? {
-            desk.perform(place, &call, out)
+        if let Some(call) = call(surroundings.rt.alloc(), i + 1, line)? {
+            desk.perform(surroundings, &call, out)
                 .context(format_args!("journal line {}", i + 1))?;
-            notice.give(place.rt, desk.has_changed(), i + 1)?;
+            notice.give(surroundings.rt, desk.has_changed(), i + 1)?;
         }
     }
     Ok(())
 }
 
-pub(crate) fn run<W: Write>(place: Place<'_>, journal: &str, out: &mut W) -> Result<()> {
-    let lines = journal.lines().collect::<Vec<&str>>(place.rt.alloc())?;
+pub(crate) fn run<W: Write>(
+    surroundings: Surroundings<'_>,
+    journal: &str,
+    out: &mut W,
+) -> Result<()> {
+    let alloc = surroundings.rt.alloc();
+    let lines = journal.lines().collect::<Vec<&str>>(alloc)?;
     let mut beginning = Beginning {
-        room: Room::USUAL,
-        chosen: Chosen::usual(place.rt.alloc())?,
+        months: USUAL_MONTHS,
+        entries: USUAL_ENTRIES,
+        schedule: ChosenSchedule::usual(alloc)?,
     };
     let mut notice = Notice { given: false };
-    let begun = begin(place, &lines, &mut beginning, &mut notice, out)?;
-    let Beginning { room, chosen } = beginning;
-    let mut quarters = vec![in place.rt.alloc(); Quarter::NEVER_POSTED; room.quarters()]?;
-    let mut hours = vec![in place.rt.alloc(); Hour::NEVER_POSTED; room.hours()]?;
-    let mut entries = vec![in place.rt.alloc(); UNWRITTEN; room.entries()]?;
-    let book = Book::new(&mut quarters, &mut hours, &mut entries);
-    let mut desk = Desk::new(book, chosen);
-    go_on(place, &lines, begun, &mut desk, &mut notice, out)
+    let begun = begin(surroundings, &lines, &mut beginning, &mut notice, out)?;
+    let Beginning {
+        months,
+        entries,
+        schedule,
+    } = beginning;
+    let mut memory = BookMemory::new(alloc, months, entries as usize)?;
+    let mut desk = Desk::new(memory.book(), schedule);
+    go_on(surroundings, &lines, begun, &mut desk, &mut notice, out)
 }

@@ -1,5 +1,5 @@
-// Reads a table of months and prints what each comes to, one a line: its 14 amounts in cents, or
-// its refusal.
+//! Reads a table of months and prints what each comes to, one a line: its 14 amounts in cents, or
+//! its refusal.
 
 #![tactic(auto)]
 
@@ -8,7 +8,8 @@ mod pricing;
 
 use anyhow::Context;
 use month::read_month;
-use pricing::{Unpriced, price_month};
+use piles::PileError;
+use pricing::price_month;
 use std::alloc::Global;
 use std::io::{self, BufRead, BufReader};
 use tariff::Amounts;
@@ -27,8 +28,8 @@ fn answer(rt: &impl Print, alloc: Global, line: &str) -> anyhow::Result<()> {
     };
     match price_month(alloc, &month) {
         Ok(amounts) => print_amounts(rt, &amounts)?,
-        Err(Unpriced::Refused(refusal)) => println!(rt; "{refusal}")?,
-        Err(Unpriced::OutOfMemory(error)) => return Err(error.into()),
+        Err(PileError::Refused(refusal)) => println!(rt; "{refusal}")?,
+        Err(PileError::OutOfMemory(error)) => return Err(error.into()),
     }
     Ok(())
 }

@@ -7,8 +7,7 @@ use piles::{RateDraft, RiderDraft};
 use std::alloc::{AllocError, Global};
 use tariff::{HourRow, PlainFacts};
 
-// The numbers of a month as they are written, within their limits or not. The riders are piled
-// upwards.
+/// The numbers of a month as they are written, within their limits or not. The riders are piled upwards.
 #[derive(Drop)]
 pub(crate) struct Month {
     pub(crate) facts: PlainFacts,
@@ -76,7 +75,7 @@ fn read_rider(alloc: Global, text: &str) -> Result<RiderDraft> {
     }
 }
 
-// None of an empty line, or of one that is only a comment.
+/// The month of a line; none of an empty one, or of one that is only a comment.
 pub(crate) fn read_month(alloc: Global, line: &str) -> Result<Option<Month>> {
     let (text, _) = line.split_once('#').unwrap_or((line, ""));
     if text.trim().is_empty() {

@@ -1,31 +1,12 @@
 // The price of a month under the rate and the riders of its line.
 use crate::month::Month;
-use piles::{Pile, RateSheet, RiderSheet};
-use std::alloc::{AllocError, AllocFailed, Global};
-use tariff::{Amounts, Facts, HourList, Refusal, price};
+use piles::{Pile, PileError, RateSheet, RiderSheet};
+use std::alloc::Global;
+use tariff::{Amounts, Facts, HourList, price};
 
-// Why a month has no amounts.
-#[derive(Drop)]
-pub(crate) enum Unpriced {
-    Refused(Refusal),
-    OutOfMemory(AllocError),
-}
-
-impl From<Refusal> for Unpriced {
-    fn from(refusal: Refusal) -> Unpriced {
-        Unpriced::Refused(refusal)
-    }
-}
-
-impl From<AllocFailed<RiderSheet>> for Unpriced {
-    fn from(failed: AllocFailed<RiderSheet>) -> Unpriced {
-        Unpriced::OutOfMemory(failed.into())
-    }
-}
-
-// Refused by the first of these that says no: facts, hours, the rate's sheet, the riders' from
-// below, and then the pricing.
-pub(crate) fn price_month(alloc: Global, month: &Month) -> Result<Amounts, Unpriced> {
+/// Refused by the first of these that says no: facts, hours, the rate's sheet, the riders' from below, and then the
+/// pricing.
+pub(crate) fn price_month(alloc: Global, month: &Month) -> Result<Amounts, PileError> {
     let facts = Facts::new(month.facts)?;
     let hours = HourList::try_from(&month.hours[..])?;
     let mut pile = Pile::new(alloc, RateSheet::try_from(month.rate)?);

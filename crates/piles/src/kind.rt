@@ -40,11 +40,16 @@ pub trait SheetKind: Copy {
         ensures { result ≡ own self };
 
     // a draft is made again of its own figures
-    ghost read_back: { (draft : Self.Draft) → from_figures (kind_of draft) (values_of (figures draft)) ≡ Some draft };
+    ghost read_back: { (draft : Self.Draft) →
+        from_figures (kind_of draft) (values_of (figures draft)) ≡ Some draft };
 
     // a draft has the kind and the figures that it was made of
-    ghost given_back: { (kind : Self) (values : List ℤ) (draft : Self.Draft) → from_figures kind values ≡ Some draft → (kind_of draft ≡ kind) × (values_of (figures draft) ≡ values) };
+    ghost given_back: { (kind : Self) (values : List ℤ) (draft : Self.Draft) →
+        from_figures kind values ≡ Some draft →
+        (kind_of draft ≡ kind) × (values_of (figures draft) ≡ values) };
 
     // a draft is made of as many figures as the published sheet has
-    ghost complete: { (kind : Self) (values : List ℤ) → IsSome (from_figures kind values) ↔ (length values ≡ length (figures (published kind))) };
+    ghost complete: { (kind : Self) (values : List ℤ) →
+        IsSome (from_figures kind values) ↔
+        (length values ≡ length (figures (published kind))) };
 }

@@ -2,11 +2,13 @@
 
 #![tactic(auto)]
 
+mod error;
 mod kind;
 mod pile;
 mod rate;
 mod rider;
 
+pub use error::PileError;
 pub use kind::SheetKind;
 pub use pile::Pile;
 pub use rate::{RateDraft, RateKind, RateSheet};

@@ -1,14 +1,14 @@
-// Bills a month, takes a late reading, trues the month up, and prints the ledger.
+//! Bills a month, takes a late reading, trues the month up, and prints the ledger.
 
 #![tactic(auto)]
 
-use audit::{Analyst, Answer, Request, audit};
-use book::Book;
-use ledger::{Entry, EntryKind, MOST_BYTES};
+use audit::{Analyst, audit};
+use book::{Answer, Book, PointCode, Request};
+use ledger::{Entry, MOST_BYTES};
 use rates::dts::{DTS_2007, DtsSheet};
 use std::alloc::{AllocError, Global};
 use std::vec;
-use store::{Hour, Quarter, Reading};
+use store::{DAY_HOURS, DAY_QUARTERS, Hour, MONTH_HOURS, MONTH_QUARTERS, Post, Quarter, Reading};
 use tariff::{Draft, Refusal};
 
 const CODE: [u8; 8] = *b"ALTA0001";
@@ -17,12 +17,12 @@ const MONTH: u32 = 1;
 
 const DAYS: u32 = 30;
 
-const HOURS: u32 = 24 * DAYS;
+const HOURS: u32 = DAY_HOURS as u32 * DAYS;
 
-// Room for two months and for their bills with a few true-ups.
-const QUARTERS: usize = 5952;
+// Room for two months, and for their bills with a few true-ups.
+const MONTHS: usize = 2;
 
-const ROOM: usize = 48;
+const ENTRIES: usize = 48;
 
 const READING: Reading = Reading {
     kw: 10_000,
@@ -60,9 +60,10 @@ fn requests<'d>(
     peak_day: &'d [Reading],
     usual_day: &'d [Reading],
 ) -> Result<Vec<Request<'d>>, AllocError> {
+    let code = PointCode::from(CODE);
     let mut requests = Vec::new(alloc);
     requests.push(Request::Open {
-        code: CODE,
+        code,
         contract: 20_000,
         substation: 30_000,
         carried,
@@ -72,22 +73,22 @@ fn requests<'d>(
         requests.push(Request::PostDay {
             month: MONTH,
             day,
-            code: CODE,
+            code,
             readings: if day == 0 { peak_day } else { usual_day },
         })?;
     }
     for hour in 0..HOURS {
-        requests.push(Request::PostPrice {
+        requests.push(Request::Post {
             month: MONTH,
-            hour,
-            price: 5_000,
+            place: hour,
+            post: Post::Price(5_000),
         })?;
     }
     requests.push(Request::Bill { month: MONTH })?;
-    requests.push(Request::PostReading {
+    requests.push(Request::Post {
         month: MONTH,
-        quarter: 0,
-        reading: LATE,
+        place: 0,
+        post: Post::Reading(LATE),
     })?;
     requests.push(Request::TrueUp { month: MONTH })?;
     Ok(requests)
@@ -98,17 +99,11 @@ fn sheet() -> Result<DtsSheet, Refusal> {
 }
 
 fn run(rt: &HostRuntime) -> anyhow::Result<()> {
-    let mut quarters = [Quarter::NEVER_POSTED; QUARTERS];
-    let mut hours = [Hour::NEVER_POSTED; 1488];
-    let nothing = Entry {
-        month: 0,
-        kind: EntryKind::Bill,
-        line: 0,
-        cents: 0,
-    };
-    let mut entries = [nothing; ROOM];
+    let mut quarters = [Quarter::NEVER_POSTED; MONTHS * MONTH_QUARTERS];
+    let mut hours = [Hour::NEVER_POSTED; MONTHS * MONTH_HOURS];
+    let mut entries = [Entry::UNWRITTEN; ENTRIES];
     let sheet = sheet()?;
-    let day = [READING; 96];
+    let day = [READING; DAY_QUARTERS];
     let mut peak_day = day;
     peak_day[0] = PEAK;
     let requests = requests(rt.alloc(), &[30_000], &peak_day, &day)?;
@@ -127,10 +122,10 @@ fn run(rt: &HostRuntime) -> anyhow::Result<()> {
     print_ledger(rt, &book)
 }
 
-// Each entry as its line.
+// Each entry by its number, as its line.
 fn print_ledger(rt: &HostRuntime, book: &Book<'_>) -> anyhow::Result<()> {
     let mut line = [0; MOST_BYTES];
-    for entry in 0..u32::try_from(book.ledger().len())? {
+    for entry in 0..u32::try_from(book.ledger().slice.len())? {
         let length = book.text(entry, &mut line)?;
         rt.write_all(&line[..length])?;
     }

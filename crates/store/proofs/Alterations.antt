@@ -1,10 +1,10 @@
 -- The months of a store after a post to one of them.
-use Rattle.std.proofs.Common.{◌≡◌, ℕ, ◌+◌, ◌*◌, ◌<◌, ◌≤◌, true, leb, ◌≢◌, List, [], ◌∷◌, ◌++◌, map, length, get_or, set, replicate, Some, None, Option, sym, refl, ap, ◌∙◌, inl, inr, arith}
+use Rattle.std.proofs.Common.{◌≡◌, ℕ, ◌+◌, ◌*◌, ◌<◌, ◌≤◌, ◌≢◌, List, [], ◌∷◌, ◌++◌, map, length, get_or, set, replicate, Some, None, Option, sym, refl, ap, ◌∙◌, inl, inr, arith}
 use lib.LanesLaws.{map-replicate}
 use lib.Seq.{sets}
 use mathlib.Core.List.{map-map}
-use Rattle.std.proofs.lemmas.List.{get_or-map, get_or_past, get_or-set_other, get_or-set_same, length-map, length-replicate, length-set, map-set, set_past, take-set-le}
-use Rattle.std.proofs.lemmas.Bool.{cases_eq, cases_lt, cond-true}
+use Rattle.std.proofs.lemmas.List.{get_or-map, get_or-set_other, get_or-set_same, length-map, length-replicate, length-set, map-set, set_past, take-set-le}
+use Rattle.std.proofs.lemmas.Bool.{cases_eq}
 use Rattle.store.specs.Months.{HourOnFile, Month, months_with, new_hour, new_month, hours_of, kw_of, no_month, quarters_of, top, with_state}
 use Rattle.store.specs.Posts.{with_hour, with_readings}
 use Rattle.store.specs.declared.memory.TheConstants.{MONTH_HOURS, MONTH_QUARTERS}
@@ -20,7 +20,7 @@ use Rattle.store.specs.declared.month.State.{State}
 use Rattle.store.specs.declared.month.State.TheVariants.{Open}
 use Rattle.store.specs.declared.store.Store.{Store}
 use Rattle.store.proofs.Peaks.{top_replicate}
-use Rattle.store.proofs.Stretches.{get_or_months, get_or_stretch, length_months, length_stretch, months_altered, months_pushed, stretch_cleared, stretch_map, stretch_set, stretch_set_other, stretch_sets, stretch_sets_other}
+use Rattle.store.proofs.Stretches.{get_or_stretch, length_months, months_altered, months_pushed, stretch_cleared, stretch_map, stretch_set, stretch_set_other, stretch_sets, stretch_sets_other}
 
 abbrev pub record_at : Store → ℕ → MonthRecord
 record_at s k = record_in s.records k

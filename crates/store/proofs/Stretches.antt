@@ -6,7 +6,7 @@ use Rattle.std.specs.List.{range_with_len}
 use Rattle.std.proofs.Math.Seq.{take-set-lt}
 use Rattle.std.proofs.lemmas.List.FromFn.{get_or-map-range_with_len, length-map-range_with_len, map-range_with_len_more}
 use Rattle.std.proofs.lemmas.List.Edits.{paste_all, sets-eq}
-use Rattle.std.proofs.lemmas.List.{append_assoc, append-nil, drop_all, drop-map, drop-set-add, drop-set-lt, take-set-le, ext_get_or, get_or-drop, get_or-take, get_or-set_other, get_or-set_same, length-map, length-replicate, length-set, map-append, same_lists, set-get_or, set_past, take-map}
+use Rattle.std.proofs.lemmas.List.{append_assoc, append-nil, drop_all, drop-map, drop-set-add, drop-set-lt, take-set-le, ext_get_or, get_or-drop, get_or-take, get_or-set_other, get_or-set_same, length-map, length-replicate, length-set, map-append, same_lists, take-map}
 use Rattle.std.proofs.lemmas.Slice.{put_mid-paste}
 use Rattle.std.proofs.lemmas.Bool.{cases_eq, cases_lt}
 use Rattle.store.specs.Months.{Month, months_with, no_month}

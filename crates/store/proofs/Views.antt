@@ -96,6 +96,10 @@ module _ (store : Store) where
   unfolding month_of peak peak_in
   peak_kept k here = ap top (map-map kw_of reading_of _) ∙ sym (store.peaks k here)
 
+  pub peak_recorded : (k : ℕ) → k < store.started
+      → (record_in store.records k).peak ≡ peak (get_or (months_of store) k no_month)
+  peak_recorded k here = sym (ap peak (get_or_months store k no_month here) ∙ peak_kept k here)
+
   peaks_kept : map peak (months_of store) ≡ map (λ month. month.peak)
       (take store.started (drop RATCHET store.records))
   peaks_kept =

@@ -1,4 +1,4 @@
-pub mod Demands
+pub mod Facts
 pub mod Months
 pub mod Posts
 pub mod Records

@@ -1,6 +1,6 @@
 -- What is posted to a month: the places that it has for it, the limits, what is answered, and the month with
 -- it on file. A further kind of post is one line in each table.
-use Rattle.std.specs.Prelude.{ℕ, ◌+◌, ◌*◌, Bool, ◌&&◌, ◌||◌, not, ◌==◌, if◌then◌else◌, List, [], ◌∷◌, map, length, Some, None, Option, Ok, Err, Result, nat_le, nat_lt, slice_index_or, slice_set}
+use Rattle.std.specs.Prelude.{ℕ, ◌+◌, Bool, ◌&&◌, ◌||◌, not, ◌==◌, if◌then◌else◌, List, [], ◌∷◌, map, length, Some, None, Option, Ok, Err, Result, nat_le, nat_lt, slice_index_or, slice_set}
 use Rattle.std.specs.List.{prefix_len}
 use Rattle.std.proofs.lemmas.List.Edits.{sets}
 use Rattle.tariff.specs.Limits.{most_demand}

@@ -48,7 +48,7 @@ first_record = record {
 abbrev pub record_in : List MonthRecord → ℕ → MonthRecord
 record_in records k = slice_index_or records (RATCHET + k) first_record
 
--- the peak kept for a month is the highest kW of its stretch
-abbrev pub PeaksKept : List MonthRecord → ℕ → List Quarter → Type 0
-PeaksKept records started quarters =
+-- the peak that the record of each started month keeps is the highest kW of its stretch
+abbrev pub KeepsPeaks : List MonthRecord → ℕ → List Quarter → Type 0
+KeepsPeaks records started quarters =
     (k : ℕ) → k < started → (record_in records k).peak ≡ peak_in quarters k (record_in records k).days

@@ -16,5 +16,5 @@ pub use carried::{CannotCarry, RATCHET};
 pub use memory::{DAY_HOURS, DAY_QUARTERS, Hour, MONTH_HOURS, MONTH_QUARTERS, Quarter};
 pub use month::{LEAST_DAYS, MOST_DAYS, MonthRecord, State};
 pub use post::{Post, PostError, Reading};
-pub use report::{Demand, Missing, MonthHours};
+pub use report::{Missing, MonthHours};
 pub use store::{MOST_MONTHS, Store};

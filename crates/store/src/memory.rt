@@ -5,6 +5,7 @@ ghost use Rattle.std.proofs.lemmas.List.Edits.{sets};
 ghost use Rattle.tariff.specs.Limits.{most_demand};
 ghost use Rattle.std.specs.List.{prefix_len};
 
+use crate::month::MOST_DAYS;
 use crate::post::Reading;
 use crate::rank::{Kw, highest_of};
 use tariff::MOST_PRICE;
@@ -16,10 +17,10 @@ pub const DAY_QUARTERS: usize = 96;
 pub const DAY_HOURS: usize = 24;
 
 /// The quarters for which the lent memory has room in each month: those of 31 days.
-pub const MONTH_QUARTERS: usize = 2976;
+pub const MONTH_QUARTERS: usize = DAY_QUARTERS * MOST_DAYS as usize;
 
 /// The hours for which the lent memory has room in each month: those of 31 days.
-pub const MONTH_HOURS: usize = 744;
+pub const MONTH_HOURS: usize = DAY_HOURS * MOST_DAYS as usize;
 
 /// A quarter of an hour in lent memory, in 8 bytes: its reading, a kW no higher than its kVA, which
 /// is 1,000,000 at the most; or the mark that none was posted, a kVA below the kW.

@@ -1,7 +1,9 @@
 // What is told of the months on file.
-ghost use Rattle.std.specs.Prelude.{◌≡◌, ℕ, ◌+◌, ◌*◌, ◌<◌, ◌≤◌, [], map, min, length, take, is_none, IfSome, MatchOption, slice_index_or};
+ghost use Rattle.std.specs.Prelude.{◌≡◌, ℕ, ◌+◌, ◌*◌, ◌<◌, ◌≤◌, [], map, min, length, take, ◌↔◌, is_none, IfSome, IsSome, MatchOption, slice_index_or};
 ghost use Rattle.std.specs.List.{position, range_with_len};
 ghost use Rattle.tariff.specs.Limits.{HourWithin, RowsWithin, most_hours, no_row};
+ghost use Rattle.tariff.specs.declared.limits.TheConstants.{MOST_ENERGY};
+ghost use Rattle.store.specs.declared.month.TheConstants.{MOST_DAYS};
 ghost use Rattle.store.specs.Months.{hour_row};
 ghost use Rattle.store.specs.Records.{hour_of, reading_of, stretch};
 
@@ -10,7 +12,7 @@ use crate::memory::{DAY_HOURS, DAY_QUARTERS, Hour, MONTH_HOURS, MONTH_QUARTERS, 
 use crate::month::{MonthRecord, State};
 use crate::rank::{Kva, Peak, highest_of};
 use crate::store::Store;
-use tariff::{HourRow, Hours};
+use tariff::{Capacities, Facts, HourRow, Hours, PlainFacts};
 
 // An hour without a price is named by its place past this, which no quarter reaches.
 const PAST_QUARTERS: u64 = 3_000;
@@ -35,15 +37,6 @@ impl Missing {
             Missing::Price { hour } => PAST_QUARTERS + hour as u64,
         }
     }
-}
-
-/// The demand figures of a month: its highest kW and its highest kVA, and the highest kW of the 24
-/// months before it.
-#[derive(Clone, Copy, PartialEq, Eq, Debug)]
-pub struct Demand {
-    pub peak: u32,
-    pub peak_kva: u32,
-    pub ratchet_peak: u32,
 }
 
 /// The rows of a month's hours, by which a rate prices it.
@@ -85,7 +78,7 @@ fn blank_rows() -> [HourRow; MONTH_HOURS]
 fn energy(quarters: &[Quarter], h: usize) -> u32
     requires { 4 * h + 4 ≤ length quarters.now }
     ensures summed { result ≡ (hour_row (map reading_of quarters.now) [] h).energy }
-    ensures within { result ≤ 4000000 }
+    ensures within { result ≤ MOST_ENERGY }
 {
     let first = 4 * h;
     quarters[first].kw()
@@ -114,7 +107,7 @@ fn fill_rows(rows: &mut [HourRow], quarters: &[Quarter], hours: &[Hour])
 }
 
 impl Store<'_> {
-    ghost use Rattle.store.specs.Demands.{IsDemandOf};
+    ghost use Rattle.store.specs.Facts.{facts_of_month};
     ghost use Rattle.store.specs.Months.{first_missing, first_short, hour_rows, quarters_of, hours_of};
     ghost use Rattle.store.specs.Rows.{rows_in};
     ghost use Rattle.store.specs.Stores.{earlier_peaks_of, month_at, months_of};
@@ -123,10 +116,10 @@ impl Store<'_> {
     // `k`; none where it is not on file.
     fn on_file<'m, T>(&self, memory: &'m [T], room: usize, a_day: usize, k: usize) -> &'m [T]
         requires held { room * self.now.started ≤ length memory.now }
-        requires roomed { a_day * 31 ≤ room }
+        requires roomed { a_day * MOST_DAYS ≤ room }
         ensures read { result.now ≡ stretch room k (a_day * (month_at self.now k).days) memory.now }
         ensures counted { length result.now ≡ a_day * (month_at self.now k).days }
-        ensures few { length result.now ≤ a_day * 31 }
+        ensures few { length result.now ≤ a_day * MOST_DAYS }
     {
         match self.month(k) {
             Some(month) => Memory::stretch(memory, room, k, a_day * month.days as usize),
@@ -201,16 +194,23 @@ impl Store<'_> {
             .position(|month| !month.state.has_reached(state))
     }
 
-    /// The demand figures of the month at place `k`; `None` where it is not on file.
-    pub fn demand(&self, k: usize) -> Option<Demand>
-        ensures { MatchOption result (length (months_of self.now) ≤ k)
-            (IsDemandOf (earlier_peaks_of self.now) (months_of self.now) k) }
+    /// The facts of the month at place `k`, as its file stands, at a point of such capacities;
+    /// `None` where it is not on file.
+    pub fn facts(&self, k: usize, capacities: Capacities) -> Option<Facts>
+        ensures there { IsSome result ↔ (k < length (months_of self.now)) }
+        ensures facts { IfSome result (λ facts. facts.plain
+            ≡ facts_of_month capacities.contract capacities.substation
+            (earlier_peaks_of self.now) (months_of self.now) k) }
     {
         let month = self.month(k)?;
-        Some(Demand {
-            peak: month.peak,
-            peak_kva: highest_of::<Quarter, Kva>(self.quarters(k)),
-            ratchet_peak: highest_of::<MonthRecord, Peak>(&self.records[k..k + RATCHET]),
+        Some(Facts {
+            plain: PlainFacts {
+                contract: capacities.contract,
+                substation: capacities.substation,
+                peak: month.peak,
+                peak_kva: highest_of::<Quarter, Kva>(self.quarters(k)),
+                ratchet_peak: highest_of::<MonthRecord, Peak>(&self.records[k..k + RATCHET]),
+            },
         })
     }
 

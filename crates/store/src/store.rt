@@ -1,7 +1,7 @@
 // The months on file.
 ghost use Rattle.std.specs.Prelude.{◌≡◌, ◌+◌, ◌*◌, ◌<◌, ◌≤◌, [], ◌∷◌, ◌++◌, drop, length, take, ◌↔◌, is_ok, IfSome, IsSome, MatchOption, OnErr, OnOk};
 ghost use Rattle.std.specs.List.{prefix_len};
-ghost use Rattle.store.specs.Records.{PeaksKept};
+ghost use Rattle.store.specs.Records.{KeepsPeaks};
 ghost use Rattle.store.specs.declared.carried.TheConstants.{RATCHET};
 ghost use Rattle.store.specs.declared.memory.TheConstants.{MONTH_HOURS, MONTH_QUARTERS};
 ghost use Rattle.store.specs.declared.store.TheConstants.{MOST_MONTHS, RECORDS};
@@ -16,7 +16,7 @@ use tariff::Refusal;
 pub const MOST_MONTHS: usize = 48;
 
 // The records of the months that the ratchet looks back before month 1, and of the store's own.
-pub(crate) const RECORDS: usize = 72;
+pub(crate) const RECORDS: usize = RATCHET + MOST_MONTHS;
 
 /// The months started in the lent memory, with the peaks of the months before them. Months are
 /// named by their place from 0, and so are the quarters, hours and days of a month.
@@ -30,7 +30,7 @@ pub struct Store<'a> {
     ghost few: { started ≤ MOST_MONTHS },
     ghost quartered: { MONTH_QUARTERS * started ≤ length memory.quarters.now },
     ghost houred: { MONTH_HOURS * started ≤ length memory.hours.now },
-    ghost peaks: { PeaksKept records started memory.quarters.now },
+    ghost peaks: { KeepsPeaks records started memory.quarters.now },
 }
 
 impl<'a> Store<'a> {

@@ -15,8 +15,12 @@ pub record WithinUpTo {X : Type 0} (Within : X → Type 0) (xs : List X) (n : �
 abbrev pub most_demand : ℕ
 most_demand = MOST_DEMAND
 
+-- a contract capacity and the sum of those at its substation
+abbrev pub CapacitiesWithin : ℕ → ℕ → Type 0
+CapacitiesWithin contract substation = (1 ≤ contract) × (contract ≤ substation) × (substation ≤ most_demand)
+
 abbrev pub ContractWithin : PlainFacts → Type 0
-ContractWithin f = (1 ≤ f.contract) × (f.contract ≤ f.substation) × (f.substation ≤ most_demand)
+ContractWithin f = CapacitiesWithin f.contract f.substation
 
 abbrev pub DemandWithin : PlainFacts → Type 0
 DemandWithin f = (f.peak ≤ f.peak_kva) × (f.peak_kva ≤ most_demand) × (f.ratchet_peak ≤ most_demand)

@@ -1,4 +1,5 @@
--- The refusal table: for each kind of refusal its number, the month that the call named, a place and a rider number.
+-- The refusal table: for each kind of refusal its number, the month that the call named, a place and a
+-- rider number.
 use Rattle.std.specs.Prelude.{ℕ, List, ◌++◌, codes, decimal, unwrap_or}
 use Rattle.tariff.specs.Lines.{line_name, number_of}
 use Rattle.tariff.specs.declared.refusal.Fault.{Fault}
@@ -34,7 +35,8 @@ numbers_of TooFewBytes = four 19 0 0 0
 abbrev pub refusal_text : Refusal → List ℕ
 refusal_text refusal =
     let n = numbers_of refusal in
-    codes "refused " ++ (decimal n.number ++ (codes " " ++ (decimal n.month ++ (codes " " ++ (decimal n.place ++ (codes " " ++ decimal n.rider))))))
+    codes "refused " ++ (decimal n.number ++ (codes " " ++
+    (decimal n.month ++ (codes " " ++ (decimal n.place ++ (codes " " ++ decimal n.rider))))))
 
 -- a fault in print: the name of the line, and what is wrong with it
 abbrev pub fault_text : Fault → List ℕ

@@ -52,4 +52,5 @@ FiguresWithin figures = (k : ℕ) → FigureWithin (slice_index_or figures k no_
 -- the refusal names the first figure outside its limits, counted from 1
 abbrev pub IsFirstOutside : FigureList → Refusal → Type 0
 IsFirstOutside figures refusal =
-    (before : ℕ) × WithinUpTo FigureWithin figures before × (before < length figures) × (refusal ≡ FigureOutside (before + 1))
+    (before : ℕ) × WithinUpTo FigureWithin figures before × (before < length figures) ×
+    (refusal ≡ FigureOutside (before + 1))

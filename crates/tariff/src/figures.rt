@@ -37,8 +37,8 @@ impl Figures {
     }
 }
 
-/// Which of a sheet's figures are the customer's own: so many from a place on, counted from 0. The published
-/// sheet has all the others.
+/// Which of a sheet's figures are the customer's own: so many from a place on, counted from 0. The
+/// published sheet has all the others.
 #[derive(Clone, Copy, PartialEq, Eq, Debug)]
 pub struct Own {
     pub first: usize,

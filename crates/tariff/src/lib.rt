@@ -1,5 +1,6 @@
-//! The pricing of a month of transmission service: what is billed for, the lines of a statement, exact money and its
-//! one rounding, sheets of figures, and what a schedule is that prices. Free of the heap: it allocates nothing.
+//! The pricing of a month of transmission service: what is billed for, the lines of a statement,
+//! exact money and its one rounding, sheets of figures, and what a schedule is that prices. Free of
+//! the heap: it allocates nothing.
 
 #![tactic(auto)]
 
@@ -20,7 +21,7 @@ mod totals;
 
 pub use amounts::{Amounts, Lines};
 pub use charges::Charges;
-pub use facts::{Facts, PlainFacts};
+pub use facts::{Capacities, Facts, PlainFacts};
 pub use figure::Figure;
 pub use figures::{Figures, MOST_FIGURES, Own};
 pub use hours::{HourList, HourRow, Hours};

@@ -1,20 +1,21 @@
 ghost use Rattle.std.specs.Prelude.{◌≡◌, Some};
+ghost use Rattle.tariff.specs.declared.refusal.Refusal.TheVariants.{LinePastLimit};
 ghost use Rattle.tariff.specs.Refusals.{fault_text, numbers_of, refusal_text};
 
 use crate::line::Line;
 use std::error::Error;
 use std::fmt;
 
-/// A line that a schedule cannot price, since it passes `MOST_CENTS`, and the number of the rider that carried it past
-/// that limit, if it was one.
+/// A line that a schedule cannot price, since it passes `MOST_CENTS`, and the number of the rider
+/// that carried it past that limit, if it was one.
 #[derive(Clone, Copy, PartialEq, Eq, Debug)]
 pub struct Fault {
     pub line: Line,
     pub rider: Option<u16>,
 }
 
-/// Why a call was refused. `month` is the month that the call named, from 1; none is 0, as in `Numbers`. `place` is what
-/// each refusal says.
+/// Why a call was refused. `month` is the month that the call named, from 1; none is 0, as in
+/// `Numbers`. `place` is what each refusal says.
 #[derive(Clone, Copy, PartialEq, Eq, Debug)]
 pub enum Refusal {
     /// The book was not opened yet.
@@ -31,12 +32,13 @@ pub enum Refusal {
     NoSuchMonth { month: u32 },
     /// A month that was made final.
     MonthFinal { month: u32 },
-    /// A quarter, day, hour, line or entry that is not there, as given; or more hours than a month has, and how many.
+    /// A quarter, day, hour, line or entry that is not there, as given; or more hours than a month
+    /// has, and how many.
     NoSuchPlace { month: u32, place: u64 },
     /// A day's post for another point.
     OtherPoint { month: u32 },
-    /// A value outside its limit; `place` is 0, and for a day's post the first such reading, from 0, or 96 where
-    /// there are not 96.
+    /// A value outside its limit; `place` is 0, and for a day's post the first such reading, from
+    /// 0, or 96 where there are not 96.
     OutsideLimit { month: u32, place: u64 },
     /// A reading or a price that was not posted; `place` is its quarter, or 3,000 and its hour.
     Missing { month: u32, place: u64 },
@@ -50,7 +52,8 @@ pub enum Refusal {
     LinePastLimit { month: u32, fault: Fault },
     /// Fewer free entries than are to be written; `place` is how many are free.
     LedgerFull { month: u32, place: u64 },
-    /// A month that would be priced otherwise now; `place` is the number of the first line that would change.
+    /// A month that would be priced otherwise now; `place` is the number of the first line that
+    /// would change.
     MonthDue { month: u32, place: u64 },
     /// A figure of a sheet outside its limits; `place` is its place on the sheet, from 1.
     FigureOutside { place: u64 },
@@ -134,3 +137,11 @@ impl fmt::Display for Refusal {
 }
 
 impl Error for Refusal {}
+
+impl From<Fault> for Refusal {
+    ghost from_gives = { λ fault refusal. refusal ≡ LinePastLimit 0 fault };
+
+    fn from(fault: Fault) -> Refusal {
+        Refusal::LinePastLimit { month: 0, fault }
+    }
+}

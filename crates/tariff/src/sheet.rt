@@ -56,8 +56,8 @@ pub trait Draft: Copy {
     fn own() -> Own
         ensures { result ≡ own };
 
-    /// Refused where a figure is outside its limits, with the place of the first such, from 1; the draft comes
-    /// back as it was.
+    /// Refused where a figure is outside its limits, with the place of the first such, from 1; the
+    /// draft comes back as it was.
     final fn seal(self) -> Result<Sealed<Self>, Unsealed<Self>>
         ensures { MatchResult result
             (λ sheet. sheet.draft ≡ self)
@@ -76,7 +76,8 @@ pub trait Draft: Copy {
     }
 
     // a draft is made of its own figures alone, and has those that it was made of
-    ghost inverse: { (values : List ℤ) (draft : Self) → (from_figures values ≡ Some draft) ↔ (values_of (figures draft) ≡ values) };
+    ghost inverse: { (values : List ℤ) (draft : Self) →
+        (from_figures values ≡ Some draft) ↔ (values_of (figures draft) ≡ values) };
 }
 
 /// A sealed sheet: its figures lie within their limits and stay as they are.

@@ -9,6 +9,7 @@ use riders::Rider;
 use riders::credit::CreditDraft;
 use riders::energy::EnergyDraft;
 use riders::percent::PercentDraft;
+use std::process::Abort;
 use std::test::Fail;
 use tariff::{Draft, Fault, HourRow, LINES, Line, PlainFacts, Rate, Refusal, Schedule};
 
@@ -51,34 +52,38 @@ fn sealed_cents<R: Rate>(draft: R) -> Result<[i64; LINES], Refusal> {
     plant_cents(&sealed(draft)?)
 }
 
+// Priced as the rate is, with what one line comes to that no other rate has so.
+fn is_that_rate<R: Rate>(
+    rt: &impl Abort,
+    chosen: RateDraft,
+    draft: R,
+    line: Line,
+    amount: i64,
+) -> Result<(), Fail> {
+    let priced = chosen_cents(chosen)?;
+    assert_eq!(rt; priced, sealed_cents(draft)?);
+    assert_eq!(rt; priced[line.index()], amount);
+    Ok(())
+}
+
 #[test]
 fn each_rate_chosen_is_that_rate(rt: HostRuntime) -> Result<(), Fail> {
     let xts = XtsDraft::published_2007();
     let dos = DosDraft::published_2009(10_000, -500);
     let sts = StsDraft::published_2009(-300, 40_000);
-    assert_eq!(rt;
-        chosen_cents(RateDraft::Dts(DTS_2007))?,
-        sealed_cents(DTS_2007)?
-    );
-    assert_eq!(rt;
-        chosen_cents(RateDraft::Gts(GTS_2007))?,
-        sealed_cents(GTS_2007)?
-    );
-    assert_eq!(rt; chosen_cents(RateDraft::Xts(xts))?, sealed_cents(xts)?);
-    assert_eq!(rt; chosen_cents(RateDraft::Dos(dos))?, sealed_cents(dos)?);
-    assert_eq!(rt; chosen_cents(RateDraft::Sts(sts))?, sealed_cents(sts)?);
-    // a line of each that no other of them has so: 4 of DTS and GTS, 9, 10 and 12
-    let dts = chosen_cents(RateDraft::Dts(DTS_2007))?;
-    assert_eq!(rt; dts[Line::DeliveryFixed.place()], 1_516_333);
-    let gts = chosen_cents(RateDraft::Gts(GTS_2007))?;
-    assert_eq!(rt; gts[Line::DeliveryDemand.place()], 14_058_900);
-    let xts = chosen_cents(RateDraft::Xts(xts))?;
-    assert_eq!(rt; xts[Line::Interconnection.place()], 16_965);
-    let dos = chosen_cents(RateDraft::Dos(dos))?;
-    assert_eq!(rt; dos[Line::TransactionFee.place()], 50_000);
-    let sts = chosen_cents(RateDraft::Sts(sts))?;
-    assert_eq!(rt; sts[Line::UnitConnection.place()], 1_036_000);
-    Ok(())
+    let dts_chosen = RateDraft::Dts(DTS_2007);
+    is_that_rate(&rt, dts_chosen, DTS_2007, Line::DeliveryFixed, 1_516_333)?;
+    let gts_chosen = RateDraft::Gts(GTS_2007);
+    is_that_rate(&rt, gts_chosen, GTS_2007, Line::DeliveryDemand, 14_058_900)?;
+    is_that_rate(&rt, RateDraft::Xts(xts), xts, Line::Interconnection, 16_965)?;
+    is_that_rate(&rt, RateDraft::Dos(dos), dos, Line::TransactionFee, 50_000)?;
+    is_that_rate(
+        &rt,
+        RateDraft::Sts(sts),
+        sts,
+        Line::UnitConnection,
+        1_036_000,
+    )
 }
 
 fn energy(number: i64, rate: i64) -> EnergyDraft {
@@ -107,7 +112,7 @@ fn a_chosen_pile_is_the_nested_riders(rt: HostRuntime) -> Result<(), Fail> {
     let priced = plant_cents(&pile)?;
     assert_eq!(rt; priced, plant_cents(&nested)?);
     // B × S is 8,100,000,000: the first three bands whole and 100,000,000 of the rest, so 2,511,933 and a third off
-    assert_eq!(rt; priced[Line::PrimaryServiceCredit.place()], -2_511_933);
+    assert_eq!(rt; priced[Line::PrimaryServiceCredit.index()], -2_511_933);
     Ok(())
 }
 
@@ -129,11 +134,11 @@ fn riders_pile_upwards(rt: HostRuntime) -> Result<(), Fail> {
     let mut above = Pile::new(rt.alloc(), RateSheet::try_from(nothing)?);
     above.pile(ten)?;
     above.pile(doubling)?;
-    assert_eq!(rt; cents(&above, PLANT, &row)?[Line::Riders.place()], 20);
+    assert_eq!(rt; cents(&above, PLANT, &row)?[Line::Riders.index()], 20);
     let mut beneath = Pile::new(rt.alloc(), RateSheet::try_from(nothing)?);
     beneath.pile(doubling)?;
     beneath.pile(ten)?;
-    assert_eq!(rt; cents(&beneath, PLANT, &row)?[Line::Riders.place()], 10);
+    assert_eq!(rt; cents(&beneath, PLANT, &row)?[Line::Riders.index()], 10);
     Ok(())
 }
 
@@ -178,25 +183,30 @@ fn a_figure_outside_is_named(rt: HostRuntime) {
         power_factor: -1,
         ..DTS_2007
     };
-    assert_eq!(rt; rate_refused(RateDraft::Dts(damaged)), at(5));
-    assert_eq!(rt; rate_refused(RateDraft::Gts(damaged)), at(5));
     let xts = XtsDraft {
         other_support: -1,
         ..XtsDraft::published_2007()
     };
-    assert_eq!(rt; rate_refused(RateDraft::Xts(xts)), at(4));
-    let dos = DosDraft::published_2009(0, 0);
-    assert_eq!(rt; rate_refused(RateDraft::Dos(dos)), at(3));
-    let sts = StsDraft::published_2009(0, 1_000_001);
-    assert_eq!(rt; rate_refused(RateDraft::Sts(sts)), at(2));
-    assert_eq!(rt; rider_refused(RiderDraft::Energy(energy(0, 0))), at(1));
-    assert_eq!(rt;
-        rider_refused(RiderDraft::Percent(percent(1, 10_001))),
-        at(2)
-    );
+    let rates = [
+        (RateDraft::Dts(damaged), 5),
+        (RateDraft::Gts(damaged), 5),
+        (RateDraft::Xts(xts), 4),
+        (RateDraft::Dos(DosDraft::published_2009(0, 0)), 3),
+        (RateDraft::Sts(StsDraft::published_2009(0, 1_000_001)), 2),
+    ];
+    for (draft, place) in rates {
+        assert_eq!(rt; rate_refused(draft), at(place));
+    }
     let credit = CreditDraft {
         fixed: -1,
         ..CreditDraft::published_2009(1)
     };
-    assert_eq!(rt; rider_refused(RiderDraft::Credit(credit)), at(6));
+    let riders = [
+        (RiderDraft::Energy(energy(0, 0)), 1),
+        (RiderDraft::Percent(percent(1, 10_001)), 2),
+        (RiderDraft::Credit(credit), 6),
+    ];
+    for (draft, place) in riders {
+        assert_eq!(rt; rider_refused(draft), at(place));
+    }
 }

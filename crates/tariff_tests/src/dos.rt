@@ -1,32 +1,27 @@
 // Rate DOS 7 Minutes: its sheet's limits and what it charges. The amounts are worked out by hand from the rate.
-use crate::support::{Filled, HIGHEST, idle_cents, limits, refused, refused_at};
+use crate::support::{HIGHEST, filled, idle_cents, limits, refused, refused_at};
 use rates::dos::DosDraft;
 use std::test::Fail;
 use tariff::{HourRow, Line, Numbers, Refusal};
-
-impl Filled<4> for DosDraft {
-    fn filled([energy, transaction_fee, opportunity_capacity, loss_factor]: [i64; 4]) -> DosDraft {
-        DosDraft {
-            energy,
-            transaction_fee,
-            opportunity_capacity,
-            loss_factor,
-        }
-    }
-}
 
 const LEAST: [i64; 4] = [0, 0, 1, -10_000];
 
 const MOST: [i64; 4] = [100_000, 10_000_000, 1_000_000, 10_000];
 
 #[test]
-fn each_figure_has_limits(rt: HostRuntime) {
+fn each_figure_has_limits(rt: HostRuntime) -> Result<(), Fail> {
     assert_eq!(rt; refused_at(DosDraft::published_2009(10_000, 500)), None);
-    limits::<DosDraft, 4>(&rt, LEAST, MOST);
+    limits::<DosDraft, 4>(&rt, LEAST, MOST)
 }
 
 #[test]
 fn a_refused_draft_comes_back(rt: HostRuntime) -> Result<(), Fail> {
+    let draft = DosDraft {
+        energy: 528,
+        transaction_fee: 50_000,
+        opportunity_capacity: 0,
+        loss_factor: 10_001,
+    };
     let unsealed = refused(DosDraft::published_2009(0, 10_001))?;
     assert_eq!(rt;
         unsealed.refusal.numbers(),
@@ -37,10 +32,7 @@ fn a_refused_draft_comes_back(rt: HostRuntime) -> Result<(), Fail> {
             rider: 0
         }
     );
-    assert_eq!(rt; unsealed.draft.energy, 528);
-    assert_eq!(rt; unsealed.draft.transaction_fee, 50_000);
-    assert_eq!(rt; unsealed.draft.opportunity_capacity, 0);
-    assert_eq!(rt; unsealed.draft.loss_factor, 10_001);
+    assert_eq!(rt; unsealed.draft, draft);
     Ok(())
 }
 
@@ -72,7 +64,7 @@ fn interconnection(
     rows: &[HourRow],
 ) -> Result<i64, Refusal> {
     let draft = DosDraft::published_2009(opportunity_capacity, loss_factor);
-    Ok(idle_cents(draft, rows)?[Line::Interconnection.place()])
+    Ok(idle_cents(draft, rows)?[Line::Interconnection.index()])
 }
 
 #[test]
@@ -86,15 +78,20 @@ fn other_hours_have_energy_and_no_losses(rt: HostRuntime) -> Result<(), Fail> {
 
 #[test]
 fn the_greater_part_is_charged(rt: HostRuntime) -> Result<(), Fail> {
-    assert_eq!(rt; interconnection(10_000, -65, &[TRANSACTION; 20])?, 79_280);
-    assert_eq!(rt; interconnection(10_000, -66, &[TRANSACTION; 20])?, 79_200);
-    assert_eq!(rt; interconnection(10_000, -67, &[TRANSACTION; 20])?, 79_200);
-    assert_eq!(rt;
-        interconnection(10_000, -10_000, &[TRANSACTION; 20])?,
-        79_200
-    );
-    assert_eq!(rt; interconnection(15_717, 500, &[TRANSACTION; 20])?, 124_480);
-    assert_eq!(rt; interconnection(15_718, 500, &[TRANSACTION; 20])?, 124_487);
+    let cases = [
+        (10_000, -65, 79_280),
+        (10_000, -66, 79_200),
+        (10_000, -67, 79_200),
+        (10_000, -10_000, 79_200),
+        (15_717, 500, 124_480),
+        (15_718, 500, 124_487),
+    ];
+    for (capacity, loss_factor, cents) in cases {
+        assert_eq!(rt;
+            interconnection(capacity, loss_factor, &[TRANSACTION; 20])?,
+            cents
+        );
+    }
     Ok(())
 }
 
@@ -120,8 +117,9 @@ fn the_fee_is_charged_every_month(rt: HostRuntime) -> Result<(), Fail> {
 
 #[test]
 fn the_highest_month_is_priced(rt: HostRuntime) -> Result<(), Fail> {
+    let most: DosDraft = filled(&MOST)?;
     assert_eq!(rt;
-        idle_cents(DosDraft::filled(MOST), &[HIGHEST; 744])?,
+        idle_cents(most, &[HIGHEST; 744])?,
         [
             0,
             0,
@@ -141,9 +139,9 @@ fn the_highest_month_is_priced(rt: HostRuntime) -> Result<(), Fail> {
     );
     let credit = DosDraft {
         loss_factor: -10_000,
-        ..DosDraft::filled(MOST)
+        ..most
     };
     let lines = idle_cents(credit, &[HIGHEST; 744])?;
-    assert_eq!(rt; lines[Line::Interconnection.place()], 55_800_000_000);
+    assert_eq!(rt; lines[Line::Interconnection.index()], 55_800_000_000);
     Ok(())
 }

@@ -1,4 +1,4 @@
-// Tests of the ranking, the tariff, the rates and the riders.
+//! Tests of the ranking, the tariff, the rates and the riders.
 
 #![tactic(auto)]
 

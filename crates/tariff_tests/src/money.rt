@@ -8,24 +8,30 @@ fn cents(numerator: i128, divisor: u64) -> Option<i64> {
 
 #[test]
 fn halves_go_away_from_zero(rt: HostRuntime) {
-    assert_eq!(rt; cents(1, 2), Some(1));
-    assert_eq!(rt; cents(-1, 2), Some(-1));
-    assert_eq!(rt; cents(3, 2), Some(2));
-    assert_eq!(rt; cents(-3, 2), Some(-2));
-    assert_eq!(rt; cents(4_999, 10_000), Some(0));
-    assert_eq!(rt; cents(-4_999, 10_000), Some(0));
-    assert_eq!(rt; cents(5_000, 10_000), Some(1));
-    assert_eq!(rt; cents(-5_001, 10_000), Some(-1));
-    assert_eq!(rt; cents(1, 0), None);
-    assert_eq!(rt;
-        cents(9_223_372_036_854_775_807, 1),
-        Some(9_223_372_036_854_775_807)
-    );
-    assert_eq!(rt; cents(9_223_372_036_854_775_808, 1), None);
-    assert_eq!(rt; cents(-9_223_372_036_854_775_808, 1), None);
+    let cases = [
+        (1, 2, Some(1)),
+        (-1, 2, Some(-1)),
+        (3, 2, Some(2)),
+        (-3, 2, Some(-2)),
+        (4_999, 10_000, Some(0)),
+        (-4_999, 10_000, Some(0)),
+        (5_000, 10_000, Some(1)),
+        (-5_001, 10_000, Some(-1)),
+        (1, 0, None),
+        (
+            9_223_372_036_854_775_807,
+            1,
+            Some(9_223_372_036_854_775_807),
+        ),
+        (9_223_372_036_854_775_808, 1, None),
+        (-9_223_372_036_854_775_808, 1, None),
+    ];
+    for (numerator, divisor, rounded) in cases {
+        assert_eq!(rt; cents(numerator, divisor), rounded);
+    }
 }
 
-fn facts(contract: u32, substation: u32, peak: u32, peak_kva: u32, ratchet_peak: u32) -> bool {
+fn facts([contract, substation, peak, peak_kva, ratchet_peak]: [u32; 5]) -> bool {
     Facts::new(PlainFacts {
         contract,
         substation,
@@ -38,14 +44,19 @@ fn facts(contract: u32, substation: u32, peak: u32, peak_kva: u32, ratchet_peak:
 
 #[test]
 fn facts_have_limits(rt: HostRuntime) -> Result<(), Fail> {
-    assert!(rt; facts(1, 1, 0, 0, 0));
-    assert!(rt; facts(1_000_000, 1_000_000, 1_000_000, 1_000_000, 1_000_000));
-    assert!(rt; !facts(0, 1, 0, 0, 0));
-    assert!(rt; !facts(2, 1, 0, 0, 0));
-    assert!(rt; !facts(1, 1_000_001, 0, 0, 0));
-    assert!(rt; !facts(1, 1, 1, 0, 0));
-    assert!(rt; !facts(1, 1, 0, 1_000_001, 0));
-    assert!(rt; !facts(1, 1, 0, 0, 1_000_001));
+    let cases = [
+        ([1, 1, 0, 0, 0], true),
+        ([1_000_000; 5], true),
+        ([0, 1, 0, 0, 0], false),
+        ([2, 1, 0, 0, 0], false),
+        ([1, 1_000_001, 0, 0, 0], false),
+        ([1, 1, 1, 0, 0], false),
+        ([1, 1, 0, 1_000_001, 0], false),
+        ([1, 1, 0, 0, 1_000_001], false),
+    ];
+    for (plain, within) in cases {
+        assert_eq!(rt; facts(plain), within);
+    }
     let none = PlainFacts {
         contract: 0,
         substation: 0,
@@ -58,7 +69,7 @@ fn facts_have_limits(rt: HostRuntime) -> Result<(), Fail> {
     Ok(())
 }
 
-fn hour(energy: u32, price: u32, scheduled: u32) -> bool {
+fn hour((energy, price, scheduled): (u32, u32, u32)) -> bool {
     let row = HourRow {
         energy,
         price,
@@ -73,11 +84,16 @@ fn taken(rows: &[HourRow]) -> usize {
 
 #[test]
 fn hours_have_limits(rt: HostRuntime) {
-    assert!(rt; hour(0, 0, 0));
-    assert!(rt; hour(4_000_000, 99_999, 1_000_000));
-    assert!(rt; !hour(4_000_001, 0, 0));
-    assert!(rt; !hour(0, 100_000, 0));
-    assert!(rt; !hour(0, 0, 1_000_001));
+    let cases = [
+        ((0, 0, 0), true),
+        ((4_000_000, 99_999, 1_000_000), true),
+        ((4_000_001, 0, 0), false),
+        ((0, 100_000, 0), false),
+        ((0, 0, 1_000_001), false),
+    ];
+    for (row, within) in cases {
+        assert_eq!(rt; hour(row), within);
+    }
     let good = HourRow {
         energy: 1,
         price: 1,

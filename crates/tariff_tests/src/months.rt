@@ -40,11 +40,11 @@ fn gts_has_its_own_delivery(rt: HostRuntime) -> Result<(), Fail> {
 #[test]
 fn power_factor_counts_below_nine_tenths(rt: HostRuntime) -> Result<(), Fail> {
     assert_eq!(rt;
-        cents(DTS_2007, month(9_000, 10_000), &[])?[Line::PowerFactor.place()],
+        cents(DTS_2007, month(9_000, 10_000), &[])?[Line::PowerFactor.index()],
         0
     );
     assert_eq!(rt;
-        cents(DTS_2007, month(9_000, 10_001), &[])?[Line::PowerFactor.place()],
+        cents(DTS_2007, month(9_000, 10_001), &[])?[Line::PowerFactor.index()],
         440
     );
     Ok(())
@@ -82,7 +82,7 @@ fn a_month_has_744_hours_at_most(rt: HostRuntime) -> Result<(), Fail> {
         scheduled: 0,
     };
     let full = cents(DTS_2007, month(1_000_000, 1_000_000), &[most; 744])?;
-    assert_eq!(rt; full[Line::OperatingReserve.place()], 2_782_532_174);
+    assert_eq!(rt; full[Line::OperatingReserve.index()], 2_782_532_174);
     let priced = cents(DTS_2007, month(0, 0), &[HOUR; 745]);
     let refusal = priced.err().ok_or("745 hours were priced")?;
     assert_eq!(rt;

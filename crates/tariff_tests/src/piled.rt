@@ -1,6 +1,6 @@
 // Riders piled over rates.
 use crate::support;
-use crate::support::{Filled, limits, refused_at, sealed};
+use crate::support::{limits, refused_at, sealed};
 use rates::dts::{DTS_2007, DtsDraft};
 use riders::Rider;
 use riders::credit::CreditDraft;
@@ -50,28 +50,15 @@ fn percent(number: i64, factor: i64) -> PercentDraft {
     PercentDraft { number, factor }
 }
 
-impl Filled<6> for CreditDraft {
-    fn filled([number, first, second, third, last, fixed]: [i64; 6]) -> CreditDraft {
-        CreditDraft {
-            number,
-            first,
-            second,
-            third,
-            last,
-            fixed,
-        }
-    }
-}
-
 #[test]
 fn credit_by_bands(rt: HostRuntime) -> Result<(), Fail> {
     let credited = Rider::over(sealed(CreditDraft::published_2009(1))?, sealed(NOTHING)?);
     assert_eq!(rt;
-        cents(&credited, 20_000, &[])?[Line::PrimaryServiceCredit.place()],
+        cents(&credited, 20_000, &[])?[Line::PrimaryServiceCredit.index()],
         -3_305_650
     );
     assert_eq!(rt;
-        cents(&credited, 40_000, &[])?[Line::PrimaryServiceCredit.place()],
+        cents(&credited, 40_000, &[])?[Line::PrimaryServiceCredit.index()],
         -2_298_325
     );
     Ok(())
@@ -88,10 +75,10 @@ fn a_percent_of_all_lines_beneath(rt: HostRuntime) -> Result<(), Fail> {
         sealed(percent(2, 100))?,
         Rider::over(sealed(energy(1, -50))?, sealed(NOTHING)?),
     );
-    assert_eq!(rt; cents(&pile, 30_000, &[small])?[Line::Riders.place()], -51);
+    assert_eq!(rt; cents(&pile, 30_000, &[small])?[Line::Riders.index()], -51);
     let turned = Rider::over(sealed(percent(2, -10_000))?, sealed(DTS_2007)?);
     assert_eq!(rt;
-        cents(&turned, 30_000, &[FULL])?[Line::Riders.place()],
+        cents(&turned, 30_000, &[FULL])?[Line::Riders.index()],
         -8_779_333
     );
     Ok(())
@@ -105,7 +92,7 @@ fn the_third_passes_the_limit(rt: HostRuntime) -> Result<(), Fail> {
         Rider::over(sealed(energy(7, 100_000))?, sealed(NOTHING)?),
     );
     assert_eq!(rt;
-        cents(&two, 30_000, &[FULL; 744])?[Line::Riders.place()],
+        cents(&two, 30_000, &[FULL; 744])?[Line::Riders.index()],
         148_800_000_000
     );
     let three = Rider::over(
@@ -132,25 +119,17 @@ fn the_third_passes_the_limit(rt: HostRuntime) -> Result<(), Fail> {
 }
 
 #[test]
-fn rider_figures_have_limits(rt: HostRuntime) {
-    assert_eq!(rt; refused_at(energy(1, -100_000)), None);
-    assert_eq!(rt; refused_at(energy(65_535, 100_000)), None);
-    assert_eq!(rt; refused_at(energy(0, 0)), Some(1));
-    assert_eq!(rt; refused_at(energy(65_536, 0)), Some(1));
-    assert_eq!(rt; refused_at(energy(1, -100_001)), Some(2));
-    assert_eq!(rt; refused_at(energy(1, 100_001)), Some(2));
-    assert_eq!(rt; refused_at(percent(1, -10_000)), None);
-    assert_eq!(rt; refused_at(percent(65_535, 10_000)), None);
-    assert_eq!(rt; refused_at(percent(0, 10_001)), Some(1));
-    assert_eq!(rt; refused_at(percent(1, -10_001)), Some(2));
-    assert_eq!(rt; refused_at(percent(1, 10_001)), Some(2));
+fn rider_figures_have_limits(rt: HostRuntime) -> Result<(), Fail> {
+    limits::<EnergyDraft, 2>(&rt, [1, -100_000], [65_535, 100_000])?;
+    limits::<PercentDraft, 2>(&rt, [1, -10_000], [65_535, 10_000])?;
+    limits::<CreditDraft, 6>(
+        &rt,
+        [1, 0, 0, 0, 0, 0],
+        [65_535, 500_000, 500_000, 500_000, 500_000, 10_000_000],
+    )
 }
 
-const LEAST: [i64; 6] = [1, 0, 0, 0, 0, 0];
-
-const MOST: [i64; 6] = [65_535, 500_000, 500_000, 500_000, 500_000, 10_000_000];
-
 #[test]
-fn credit_figures_have_limits(rt: HostRuntime) {
-    limits::<CreditDraft, 6>(&rt, LEAST, MOST);
+fn the_first_figure_outside_is_named(rt: HostRuntime) {
+    assert_eq!(rt; refused_at(percent(0, 10_001)), Some(1));
 }

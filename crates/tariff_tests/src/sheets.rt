@@ -1,33 +1,8 @@
 // Sealing a sheet: each figure at its limits and just past them.
-use crate::support::{Filled, limits, refused, refused_at};
+use crate::support::{limits, refused, refused_at};
 use rates::dts::{DTS_2007, DtsDraft, GTS_2007};
 use std::test::Fail;
 use tariff::Numbers;
-
-impl Filled<8> for DtsDraft {
-    fn filled(figures: [i64; 8]) -> DtsDraft {
-        let [
-            system_demand,
-            system_energy,
-            delivery_demand,
-            delivery_fixed,
-            operating_reserve,
-            voltage_control,
-            other_support,
-            power_factor,
-        ] = figures;
-        DtsDraft {
-            system_demand,
-            system_energy,
-            delivery_demand,
-            delivery_fixed,
-            operating_reserve,
-            voltage_control,
-            other_support,
-            power_factor,
-        }
-    }
-}
 
 const LEAST: [i64; 8] = [0; 8];
 
@@ -36,10 +11,10 @@ const MOST: [i64; 8] = [
 ];
 
 #[test]
-fn each_figure_has_limits(rt: HostRuntime) {
+fn each_figure_has_limits(rt: HostRuntime) -> Result<(), Fail> {
     assert_eq!(rt; refused_at(DTS_2007), None);
     assert_eq!(rt; refused_at(GTS_2007), None);
-    limits::<DtsDraft, 8>(&rt, LEAST, MOST);
+    limits::<DtsDraft, 8>(&rt, LEAST, MOST)
 }
 
 #[test]
@@ -59,8 +34,6 @@ fn a_refused_draft_comes_back(rt: HostRuntime) -> Result<(), Fail> {
             rider: 0
         }
     );
-    assert_eq!(rt; unsealed.draft.operating_reserve, 10_001);
-    assert_eq!(rt; unsealed.draft.power_factor, -1);
-    assert_eq!(rt; unsealed.draft.system_demand, 161_500);
+    assert_eq!(rt; unsealed.draft, wrong);
     Ok(())
 }

@@ -54,30 +54,31 @@ pub(crate) fn refused_at<D: Draft>(draft: D) -> Option<u64> {
 }
 
 // A draft that is filled in from its figures in their order.
-pub(crate) trait Filled<const N: usize>: Draft {
-    fn filled(figures: [i64; N]) -> Self;
+pub(crate) fn filled<D: Draft>(figures: &[i64]) -> Result<D, Fail> {
+    Ok(D::from_figures(figures).ok_or("not as many figures as the sheet has")?)
 }
 
 // Sealed with every figure at its least or at its most, and refused by its place with one a
 // step past a limit.
-pub(crate) fn limits<D: Filled<N>, const N: usize>(
+pub(crate) fn limits<D: Draft, const N: usize>(
     rt: &impl Abort,
     least: [i64; N],
     most: [i64; N],
-) {
-    a_step_past::<D, N>(rt, least, -1);
-    a_step_past::<D, N>(rt, most, 1);
+) -> Result<(), Fail> {
+    a_step_past::<D, N>(rt, least, -1)?;
+    a_step_past::<D, N>(rt, most, 1)
 }
 
-fn a_step_past<D: Filled<N>, const N: usize>(rt: &impl Abort, limits: [i64; N], step: i64) {
-    assert_eq!(rt; refused_at(D::filled(limits)), None);
+fn a_step_past<D: Draft, const N: usize>(
+    rt: &impl Abort,
+    limits: [i64; N],
+    step: i64,
+) -> Result<(), Fail> {
+    assert_eq!(rt; refused_at(filled::<D>(&limits)?), None);
     for (i, limit) in limits.iter().enumerate() {
         let mut past = limits;
         past[i] = limit.saturating_add(step);
-        assert_eq!(rt;
-            refused_at(D::filled(past)),
-            Some(i as u64 + 1),
-            "a step of {step}"
-        );
+        assert_eq!(rt; refused_at(filled::<D>(&past)?), Some(i as u64 + 1));
     }
+    Ok(())
 }

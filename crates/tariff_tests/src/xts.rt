@@ -1,39 +1,28 @@
 // Rate XTS: its sheet's limits and what it charges. The amounts are worked out by hand from the rate.
-use crate::support::{Filled, HIGHEST, idle_cents, limits, refused, refused_at};
+use crate::support::{HIGHEST, filled, idle_cents, limits, refused, refused_at};
 use rates::xts::{XTS_2007, XtsDraft};
 use std::test::Fail;
 use tariff::{HourRow, Line, Numbers, Refusal};
-
-impl Filled<4> for XtsDraft {
-    fn filled(figures: [i64; 4]) -> XtsDraft {
-        let [
-            interconnection,
-            operating_reserve,
-            voltage_control,
-            other_support,
-        ] = figures;
-        XtsDraft {
-            interconnection,
-            operating_reserve,
-            voltage_control,
-            other_support,
-        }
-    }
-}
 
 const LEAST: [i64; 4] = [0; 4];
 
 const MOST: [i64; 4] = [100_000, 10_000, 100_000, 100_000];
 
 #[test]
-fn each_figure_has_limits(rt: HostRuntime) {
+fn each_figure_has_limits(rt: HostRuntime) -> Result<(), Fail> {
     assert_eq!(rt; refused_at(XTS_2007), None);
-    limits::<XtsDraft, 4>(&rt, LEAST, MOST);
+    limits::<XtsDraft, 4>(&rt, LEAST, MOST)
 }
 
 #[test]
 fn a_refused_draft_comes_back(rt: HostRuntime) -> Result<(), Fail> {
-    let unsealed = refused(XtsDraft::filled([377, 374, 100_001, -1]))?;
+    let draft = XtsDraft {
+        interconnection: 377,
+        operating_reserve: 374,
+        voltage_control: 100_001,
+        other_support: -1,
+    };
+    let unsealed = refused(draft)?;
     assert_eq!(rt;
         unsealed.refusal.numbers(),
         Numbers {
@@ -43,10 +32,7 @@ fn a_refused_draft_comes_back(rt: HostRuntime) -> Result<(), Fail> {
             rider: 0
         }
     );
-    assert_eq!(rt; unsealed.draft.interconnection, 377);
-    assert_eq!(rt; unsealed.draft.operating_reserve, 374);
-    assert_eq!(rt; unsealed.draft.voltage_control, 100_001);
-    assert_eq!(rt; unsealed.draft.other_support, -1);
+    assert_eq!(rt; unsealed.draft, draft);
     Ok(())
 }
 
@@ -86,25 +72,30 @@ fn interconnection(draft: XtsDraft, energy: u32, scheduled: u32) -> Result<i64, 
         price: 0,
         scheduled,
     };
-    Ok(idle_cents(draft, &[hour])?[Line::Interconnection.place()])
+    Ok(idle_cents(draft, &[hour])?[Line::Interconnection.index()])
 }
 
 #[test]
 fn the_greater_part_is_charged(rt: HostRuntime) -> Result<(), Fail> {
-    let most = XtsDraft::filled([100_000, 0, 0, 0]);
-    assert_eq!(rt; interconnection(most, 3_599_999, 1_000_000)?, 90_000_000);
-    assert_eq!(rt; interconnection(most, 3_600_000, 1_000_000)?, 90_000_000);
-    assert_eq!(rt; interconnection(most, 3_600_001, 1_000_000)?, 90_000_025);
-    assert_eq!(rt; interconnection(XTS_2007, 3_599_989, 1_000_000)?, 339_300);
-    assert_eq!(rt; interconnection(XTS_2007, 3_600_011, 1_000_000)?, 339_301);
-    assert_eq!(rt; interconnection(XTS_2007, 0, 3_000)?, 1_018);
+    let most: XtsDraft = filled(&[100_000, 0, 0, 0])?;
+    let cases = [
+        (most, 3_599_999, 1_000_000, 90_000_000),
+        (most, 3_600_000, 1_000_000, 90_000_000),
+        (most, 3_600_001, 1_000_000, 90_000_025),
+        (XTS_2007, 3_599_989, 1_000_000, 339_300),
+        (XTS_2007, 3_600_011, 1_000_000, 339_301),
+        (XTS_2007, 0, 3_000, 1_018),
+    ];
+    for (draft, energy, scheduled, cents) in cases {
+        assert_eq!(rt; interconnection(draft, energy, scheduled)?, cents);
+    }
     Ok(())
 }
 
 #[test]
 fn the_highest_month_is_priced(rt: HostRuntime) -> Result<(), Fail> {
     assert_eq!(rt;
-        idle_cents(XtsDraft::filled(MOST), &[HIGHEST; 744])?,
+        idle_cents(filled::<XtsDraft>(&MOST)?, &[HIGHEST; 744])?,
         [
             0,
             0,

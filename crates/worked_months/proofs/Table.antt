@@ -16,7 +16,8 @@ use Rattle.riders.specs.Percent.{sum_of}
 use Rattle.worked_months.specs.Months.{Worked, capacity, line, Says, Holds, worked_months}
 
 says : Line → ℤ → Outcome → Bool
-says l cents (Ok amounts) = let found = get_or amounts (index_of l) (pos 0) in le_z found cents && le_z cents found
+says l cents (Ok amounts) =
+    let found = get_or amounts (index_of l) (pos 0) in le_z found cents && le_z cents found
 says l cents (Err fault) = false
 
 test : Worked → Bool
@@ -43,7 +44,8 @@ every (w ∷ rows) = test w && every rows
 every_tells : (rows : List Worked) → every rows ≡ true → AllByRecursion Holds rows
 unfolding every
 every_tells [] e = tt
-every_tells (w ∷ rows) e = let both = and_parts (test w) (every rows) e in (test_tells w both.0, every_tells rows both.1)
+every_tells (w ∷ rows) e =
+    let both = and_parts (test w) (every rows) e in (test_tells w both.0, every_tells rows both.1)
 
 pub all_hold : AllByRecursion Holds worked_months
 unfolding every test says billing_capacity total nearest_cents nearest excess_kva sum_of credits

@@ -48,7 +48,9 @@ impl Draft for DosDraft {
 
     ghost own = { dos_own };
 
-    ghost inverse = { inverse _ dos_draft (λ draft. values_of (dos_figures draft)) (λ _. refl) (λ _. refl) (λ _. refl) };
+    ghost inverse = { inverse _ dos_draft
+        (λ draft. values_of (dos_figures draft))
+        (λ _. refl) (λ _. refl) (λ _. refl) };
 
     fn figures(&self) -> Figures {
         Figures::new(&[

@@ -5,7 +5,8 @@ ghost use Rattle.rates.specs.Dts.{dts_2007, dts_draft, dts_figures, dts_from_fig
 
 use tariff::{Draft, Figure, Figures, Own, Sealed};
 
-/// The figures of a sheet of rate DTS or GTS that is still being filled in, any numbers. Each can be sealed from 0.
+/// The figures of a sheet of rate DTS or GTS that is still being filled in, any numbers. Each can
+/// be sealed from 0.
 #[derive(Clone, Copy, PartialEq, Eq, Debug)]
 pub struct DtsDraft {
     /// Cents per MW of billing capacity, at most 10,000,000.
@@ -76,7 +77,9 @@ impl Draft for DtsDraft {
 
     ghost own = { no_own };
 
-    ghost inverse = { inverse _ dts_draft (λ draft. values_of (dts_figures draft)) (λ _. refl) (λ _. refl) (λ _. refl) };
+    ghost inverse = { inverse _ dts_draft
+        (λ draft. values_of (dts_figures draft))
+        (λ _. refl) (λ _. refl) (λ _. refl) };
 
     fn figures(&self) -> Figures {
         Figures::new(&[

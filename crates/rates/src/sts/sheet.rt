@@ -42,7 +42,9 @@ impl Draft for StsDraft {
 
     ghost own = { sts_own };
 
-    ghost inverse = { inverse _ sts_draft (λ draft. values_of (sts_figures draft)) (λ _. refl) (λ _. refl) (λ _. refl) };
+    ghost inverse = { inverse _ sts_draft
+        (λ draft. values_of (sts_figures draft))
+        (λ _. refl) (λ _. refl) (λ _. refl) };
 
     fn figures(&self) -> Figures {
         Figures::new(&[

@@ -5,7 +5,8 @@ ghost use Rattle.rates.specs.Xts.{xts_2007, xts_draft, xts_figures, xts_from_fig
 
 use tariff::{Draft, Figure, Figures, Own, Sealed};
 
-/// The figures of a sheet of rate XTS that is still being filled in, any numbers. Each can be sealed from 0.
+/// The figures of a sheet of rate XTS that is still being filled in, any numbers. Each can be
+/// sealed from 0.
 #[derive(Clone, Copy, PartialEq, Eq, Debug)]
 pub struct XtsDraft {
     /// Cents per MWh, at most 100,000.
@@ -45,7 +46,9 @@ impl Draft for XtsDraft {
 
     ghost own = { no_own };
 
-    ghost inverse = { inverse _ xts_draft (λ draft. values_of (xts_figures draft)) (λ _. refl) (λ _. refl) (λ _. refl) };
+    ghost inverse = { inverse _ xts_draft
+        (λ draft. values_of (xts_figures draft))
+        (λ _. refl) (λ _. refl) (λ _. refl) };
 
     fn figures(&self) -> Figures {
         Figures::new(&[

@@ -5,8 +5,9 @@ ghost use Rattle.riders.specs.Credit.{credit_draft, credit_figures, credit_from_
 
 use tariff::{Draft, Figure, Figures, Own, Sealed};
 
-/// The figures of a Primary Service Credit that is still being filled in, any numbers. A band is of billing capacity times
-/// substation total over contract; each of its figures is in cents per MW, from 0 to 500,000.
+/// The figures of a Primary Service Credit that is still being filled in, any numbers. A band is of
+/// billing capacity times substation total over contract; each of its figures is in cents per MW,
+/// from 0 to 500,000.
 #[derive(Clone, Copy, PartialEq, Eq, Debug)]
 pub struct CreditDraft {
     /// The rider's number, the customer's own: from 1 to 65,535.
@@ -23,8 +24,8 @@ pub struct CreditDraft {
     pub fixed: i64,
 }
 
-/// The published figures: AESO tariff, Primary Service Credit, 2009. The number is the customer's own, and 0 here, which
-/// cannot be sealed.
+/// The published figures: AESO tariff, Primary Service Credit, 2009. The number is the customer's
+/// own, and 0 here, which cannot be sealed.
 pub const PSC_2009: CreditDraft = CreditDraft {
     number: 0,
     first: 217_500,
@@ -53,7 +54,9 @@ impl Draft for CreditDraft {
 
     ghost own = { credit_own };
 
-    ghost inverse = { inverse _ credit_draft (λ draft. values_of (credit_figures draft)) (λ _. refl) (λ _. refl) (λ _. refl) };
+    ghost inverse = { inverse _ credit_draft
+        (λ draft. values_of (credit_figures draft))
+        (λ _. refl) (λ _. refl) (λ _. refl) };
 
     fn figures(&self) -> Figures {
         Figures::new(&[

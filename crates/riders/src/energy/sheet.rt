@@ -5,7 +5,8 @@ ghost use Rattle.riders.specs.Energy.{energy_draft, energy_figures, energy_from_
 
 use tariff::{Draft, Figure, Figures, Own, Sealed};
 
-/// The figures of an energy rider that is still being filled in, any numbers; both are the customer's own.
+/// The figures of an energy rider that is still being filled in, any numbers; both are the
+/// customer's own.
 #[derive(Clone, Copy, PartialEq, Eq, Debug)]
 pub struct EnergyDraft {
     /// The rider's number, from 1 to 65,535.
@@ -24,7 +25,9 @@ impl Draft for EnergyDraft {
 
     ghost own = { energy_own };
 
-    ghost inverse = { inverse _ energy_draft (λ draft. values_of (energy_figures draft)) (λ _. refl) (λ _. refl) (λ _. refl) };
+    ghost inverse = { inverse _ energy_draft
+        (λ draft. values_of (energy_figures draft))
+        (λ _. refl) (λ _. refl) (λ _. refl) };
 
     fn figures(&self) -> Figures {
         Figures::new(&[

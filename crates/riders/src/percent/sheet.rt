@@ -5,7 +5,8 @@ ghost use Rattle.riders.specs.Percent.{percent_draft, percent_figures, percent_f
 
 use tariff::{Draft, Figure, Figures, Own, Sealed};
 
-/// The figures of a percent rider that is still being filled in, any numbers; both are the customer's own.
+/// The figures of a percent rider that is still being filled in, any numbers; both are the
+/// customer's own.
 #[derive(Clone, Copy, PartialEq, Eq, Debug)]
 pub struct PercentDraft {
     /// The rider's number, from 1 to 65,535.
@@ -24,7 +25,9 @@ impl Draft for PercentDraft {
 
     ghost own = { percent_own };
 
-    ghost inverse = { inverse _ percent_draft (λ draft. values_of (percent_figures draft)) (λ _. refl) (λ _. refl) (λ _. refl) };
+    ghost inverse = { inverse _ percent_draft
+        (λ draft. values_of (percent_figures draft))
+        (λ _. refl) (λ _. refl) (λ _. refl) };
 
     fn figures(&self) -> Figures {
         Figures::new(&[

@@ -1,7 +1,6 @@
 use Rattle.std.proofs.Common.{◌≡◌, ℕ, ◌+◌, false, not, ◌||◌, ltb, leb, [], ◌∷◌, ◌++◌, length, is_some, Some, Ok, Err, Result, OnOk, OnErr, refl, ap, ◌∙◌, inl, inr, arith}
 use Rattle.std.proofs.lemmas.Bool.{cases_Bool, cond-false, cond-true}
 use Rattle.std.proofs.lemmas.Bool.Decides.{nat_tests}
-use Rattle.ledger.specs.Ledgers.{entries_of, room_of}
 use Rattle.store.specs.Months.{new_month}
 use Rattle.store.specs.Posts.{start_answer}
 use Rattle.store.specs.declared.store.Store.{Store}
@@ -14,7 +13,7 @@ use Rattle.book.specs.Calls.{starts}
 use Rattle.book.specs.Table.{blank_book, days_within, row}
 use Rattle.book.specs.declared.book.Book.{Book}
 use Rattle.book.specs.declared.point.Point.{Point}
-use Rattle.book.proofs.Exits.{is_refused, is_taken, first_holds, none_holds, pass, same_view}
+use Rattle.book.proofs.Exits.{is_refused, is_taken, first_holds, none_holds, pass}
 use Rattle.book.proofs.Unbilled.{Unbilled, unbilled_started}
 use Rattle.book.proofs.book.Book.start.Goals as goal
 
@@ -37,10 +36,8 @@ module _ (meaning : Meaning) (book book' : Book) (days : ℕ) (point : Point) (o
   not_blank : (blank_book 0 (view book)).holds ≡ false
   not_blank = ap (λ p. not (is_some (point_of p))) opened
 
-  unaltered : (e : Refusal) → r ≡ Err e → IsUnaltered book book' × (view book' ≡ view book)
-  unaltered e err =
-      let store = rw err at refused in
-      ((same.0, store, same.1), same_view (ap point_of same.0) (ap earlier_peaks_of store) (ap months_of store) (ap entries_of same.1) (ap capacity_of store) (ap room_of same.1))
+  kept : (e : Refusal) → r ≡ Err e → IsUnaltered book book'
+  kept e err = record { point = same.0; store = rw err at refused; ledger = same.1 }
 
   pub performs : Performs meaning (starts days) book r book'
   performs =
@@ -49,20 +46,18 @@ module _ (meaning : Meaning) (book book' : Book) (days : ℕ) (point : Point) (o
       elim (cases_Bool (leb v.capacity (length v.months))) [
         | inl none ↦
             let err : r ≡ Err NoMonthFree = is ∙ cond-true _ _ _ none in
-            let kept = unaltered NoMonthFree err in
-            rw err (is_refused meaning (starts days) book book' NoMonthFree (pass (blank_book 0 v) (row (leb v.capacity (length v.months)) NoMonthFree ∷ rest ∷ []) _ not_blank (cond-true _ _ _ none)) kept.0 kept.1)
+            rw err (is_refused meaning (starts days) book book' NoMonthFree (pass (blank_book 0 v) (row (leb v.capacity (length v.months)) NoMonthFree ∷ rest ∷ []) _ not_blank (cond-true _ _ _ none)) (kept NoMonthFree err))
         | inr some ↦
             let rows = blank_book 0 v ∷ row (leb v.capacity (length v.months)) NoMonthFree ∷ [] in
             elim (cases_Bool (ltb days 28 || ltb 31 days)) [
               | inl outside ↦
                   let err : r ≡ Err DaysOutside = is ∙ cond-false _ _ _ some ∙ cond-true _ _ _ outside in
-                  let kept = unaltered DaysOutside err in
-                  rw err (is_refused meaning (starts days) book book' DaysOutside (first_holds rows rest [] (not_blank, (some, tt)) (days_alike days ∙ outside)) kept.0 kept.1)
+                  rw err (is_refused meaning (starts days) book book' DaysOutside (first_holds rows rest [] (not_blank, (some, tt)) (days_alike days ∙ outside)) (kept DaysOutside err))
               | inr within ↦
                   let ok : r ≡ Ok (length v.months + 1) = is ∙ cond-false _ _ _ some ∙ cond-false _ _ _ within in
                   rw ok
                   (is_taken meaning (starts days) book book' (length v.months + 1) (none_holds (blank_book 0 v ∷ row (leb v.capacity (length v.months)) NoMonthFree ∷ rest ∷ []) (not_blank, (some, (days_alike days ∙ within, tt)))) refl
-                  (same_view (ap point_of same.0) before (rw ok at months) (ap entries_of same.1) capacity (ap room_of same.1)))
+                  (let point = same.0 in let ledger = same.1 in let started = rw ok at months in cc))
             ]
       ]
 

@@ -1,4 +1,4 @@
-use Rattle.std.proofs.Common.{◌∙◌, arith, rules}
+use Rattle.std.proofs.Common.{◌∙◌, rules}
 use Rattle.store.proofs.Views.{days_found, days_recorded}
 use Rattle.store.proofs.store.Store.days_of.Goals as goal
 

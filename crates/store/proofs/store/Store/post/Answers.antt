@@ -1,4 +1,4 @@
-use Rattle.std.proofs.Common.{◌≡◌, ℕ, ◌<◌, leb, Some, None, ap, sym, refl, ◌∙◌, arith, rules, tests, true}
+use Rattle.std.proofs.Common.{◌≡◌, ◌<◌, leb, Some, None, ap, sym, refl, ◌∙◌, arith, rules, tests, true}
 use Rattle.std.proofs.lemmas.Bool.{cond-true}
 use Rattle.store.specs.Months.{hours_of}
 use Rattle.store.specs.Posts.{post_places, post_within}
