@@ -1,5 +1,5 @@
 -- How a call ends: refused by a row, or taken.
-use Rattle.std.proofs.Common.{◌≡◌, ℕ, ◌+◌, ◌<◌, ◌≤◌, Bool, true, false, not, List, [], ◌∷◌, ◌++◌, is_some, IsErrAnd, Some, None, Ok, Err, Option, Result, sym, refl, ap, ◌∙◌, arith}
+use Rattle.std.proofs.Common.{rules, ◌≡◌, ℕ, ◌+◌, ◌<◌, ◌≤◌, Bool, true, false, not, List, [], ◌∷◌, ◌++◌, is_some, IsErrAnd, Some, None, Ok, Err, Option, Result, sym, refl, ap, ◌∙◌, arith}
 use Rattle.std.specs.List.{AllByRecursion}
 use Rattle.std.proofs.lemmas.Result.{err_from_is_err_and}
 use Rattle.std.proofs.lemmas.Bool.{and_parts, cond-true, cond-false, le-ltb, leb-true, lt-ltb}
@@ -38,15 +38,11 @@ first_holds [] held after all is = here held after is
 first_holds (row ∷ before) held after all is = pass row (before ++ held ∷ after) _ all.0 (first_holds before held after all.1 is)
 
 pub unaltered : (book : Book) → IsUnaltered book book
-unaltered book = record { point = refl; store = refl; ledger = refl }
+unaltered book = search rules
 
 -- a book that nothing altered holds what it held
 unaltered_view : (book book' : Book) → IsUnaltered book book' → view book' ≡ view book
-unaltered_view book book' same =
-    let point = same.point in
-    let store = same.store in
-    let ledger = same.ledger in
-    cc
+unaltered_view book book' same = cc
 
 module _ (meaning : Meaning) (call : Call) (book book' : Book) where
   pub is_refused : (refusal : Refusal) → refusal_of meaning call (view book) ≡ Some refusal

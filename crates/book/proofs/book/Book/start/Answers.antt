@@ -1,10 +1,10 @@
-use Rattle.std.proofs.Common.{◌≡◌, ℕ, ◌+◌, false, not, ◌||◌, ltb, leb, [], ◌∷◌, ◌++◌, length, is_some, Some, Ok, Err, Result, OnOk, OnErr, refl, ap, ◌∙◌, inl, inr, arith}
+use Rattle.std.proofs.Common.{rules, ◌≡◌, ℕ, ◌+◌, false, not, ◌||◌, ltb, leb, [], ◌∷◌, ◌++◌, length, is_some, Some, Ok, Err, Result, OnOk, OnErr, refl, ap, ◌∙◌, inl, inr, arith}
 use Rattle.std.proofs.lemmas.Bool.{cases_Bool, cond-false, cond-true}
 use Rattle.std.proofs.lemmas.Bool.Decides.{nat_tests}
 use Rattle.store.specs.Months.{new_month}
 use Rattle.store.specs.Posts.{start_answer}
 use Rattle.store.specs.declared.store.Store.{Store}
-use Rattle.store.specs.Stores.{earlier_peaks_of, capacity_of, months_of}
+use Rattle.store.specs.Stores.{months_of}
 use Rattle.tariff.specs.Pricing.{Meaning}
 use Rattle.tariff.specs.declared.refusal.Refusal.{Refusal}
 use Rattle.tariff.specs.declared.refusal.Refusal.TheVariants.{NoMonthFree, DaysOutside}
@@ -38,14 +38,10 @@ module _ (meaning : Meaning) (book book' : Book) (days : ℕ) (point : Point) (o
     (r : Result ℕ Refusal) (is : r ≡ start_answer (view book).capacity (length (view book).months) days)
     (months : OnOk r (months_of book'.store ≡ (view book).months ++ (new_month days ∷ [])))
     (refused : OnErr r (book'.store ≡ book.store))
-    (same : (book'.point ≡ book.point) × (book'.ledger ≡ book.ledger))
-    (before : earlier_peaks_of book'.store ≡ earlier_peaks_of book.store)
-    (capacity : capacity_of book'.store ≡ capacity_of book.store) where
+    (kept : book'.store ≡ book.store → IsUnaltered book book')
+    (seen : view book' ≡ record (view book) { months = months_of book'.store }) where
   not_blank : (blank_book 0 (view book)).holds ≡ false
   not_blank = ap (λ p. not (is_some (point_of p))) opened
-
-  kept : (e : Refusal) → r ≡ Err e → IsUnaltered book book'
-  kept e err = record { point = same.0; store = rw err at refused; ledger = same.1 }
 
   pub performs : Performs meaning (starts days) book r book'
   performs =
@@ -54,21 +50,23 @@ module _ (meaning : Meaning) (book book' : Book) (days : ℕ) (point : Point) (o
       elim (cases_Bool (leb v.capacity (length v.months))) [
         | inl none ↦
             let err : r ≡ Err NoMonthFree = is ∙ cond-true _ _ _ none in
-            rw err (is_refused meaning (starts days) book book' NoMonthFree (pass (blank_book 0 v) (row (leb v.capacity (length v.months)) NoMonthFree ∷ rest ∷ []) _ not_blank (cond-true _ _ _ none)) (kept NoMonthFree err))
+            rw err (is_refused meaning (starts days) book book' NoMonthFree (pass (blank_book 0 v) (row (leb v.capacity (length v.months)) NoMonthFree ∷ rest ∷ []) _ not_blank (cond-true _ _ _ none)) (kept (rw err at refused)))
         | inr some ↦
             let rows = blank_book 0 v ∷ row (leb v.capacity (length v.months)) NoMonthFree ∷ [] in
             elim (cases_Bool (ltb days 28 || ltb 31 days)) [
               | inl outside ↦
                   let err : r ≡ Err DaysOutside = is ∙ cond-false _ _ _ some ∙ cond-true _ _ _ outside in
-                  rw err (is_refused meaning (starts days) book book' DaysOutside (first_holds rows rest [] (not_blank, (some, tt)) (days_alike days ∙ outside)) (kept DaysOutside err))
+                  rw err (is_refused meaning (starts days) book book' DaysOutside (first_holds rows rest [] (not_blank, (some, tt)) (days_alike days ∙ outside)) (kept (rw err at refused)))
               | inr within ↦
                   let ok : r ≡ Ok (length v.months + 1) = is ∙ cond-false _ _ _ some ∙ cond-false _ _ _ within in
                   rw ok
                   (is_taken meaning (starts days) book book' (length v.months + 1) (none_holds (blank_book 0 v ∷ row (leb v.capacity (length v.months)) NoMonthFree ∷ rest ∷ []) (not_blank, (some, (days_alike days ∙ within, tt)))) refl
-                  (let point = same.0 in let ledger = same.1 in let started = rw ok at months in cc))
+                  (seen ∙ ap (λ all. record v { months = all }) (rw ok at months)))
             ]
       ]
 
 pub returns : goal.returns
 returns c meaning =
-    performs meaning c.args.self.now _ c.args.days c.in_ok-open_point.field-0 c.in_ok-open_point.ensures c.start.result c.start.ensures.result c.start.ensures.months c.start.ensures.refused (refl, refl) c.start.ensures.before c.start.ensures.capacity
+    let before = c.start.ensures.before in
+    let capacity = c.start.ensures.capacity in
+    performs meaning c.args.self.now _ c.args.days c.in_ok-open_point.field-0 c.in_ok-open_point.ensures c.start.result c.start.ensures.result c.start.ensures.months c.start.ensures.refused (λ store. search (rules, store)) (cc)
