@@ -8,7 +8,7 @@ use riders::Adjustment;
 use riders::credit::{CreditDraft, CreditSheet};
 use riders::energy::{EnergyDraft, EnergySheet};
 use riders::percent::{PercentDraft, PercentSheet};
-use tariff::{Amounts, Draft, Facts, Figures, Fraction, Hours, Line, Own, Refusal};
+use tariff::{Amounts, Draft, Facts, Figures, Fraction, Hours, Line, OwnFigures, Refusal};
 
 /// Which rider stands over a schedule.
 #[derive(Clone, Copy, PartialEq, Eq, Debug)]
@@ -75,7 +75,7 @@ impl SheetKind for RiderKind {
         }
     }
 
-    fn own(self) -> Own {
+    fn own(self) -> OwnFigures {
         match self {
             RiderKind::Energy => EnergyDraft::own(),
             RiderKind::Percent => PercentDraft::own(),

@@ -5,18 +5,14 @@ use Rattle.tariff.specs.declared.refusal.Refusal.{Refusal}
 use Rattle.tariff.specs.declared.refusal.Refusal.TheVariants.{FigureOutside}
 use Rattle.tariff.specs.declared.figure.Figure.{Figure}
 use Rattle.tariff.specs.declared.figures.Figures.{Figures}
-use Rattle.tariff.specs.declared.figures.Own.{Own}
+use Rattle.tariff.specs.declared.figures.OwnFigures.{OwnFigures}
 
 -- the figures of a sheet in their order
 abbrev pub FigureList : Type 0
 FigureList = List Figure
 
--- which of the figures are the customer's own
-abbrev pub OwnPlaces : Type 0
-OwnPlaces = Own
-
 -- no figure is the customer's own
-abbrev pub no_own : OwnPlaces
+abbrev pub no_own : OwnFigures
 no_own = record { first = 0; count = 0 }
 
 abbrev pub figure_list : Figures → FigureList

@@ -10,7 +10,9 @@ use std::fmt;
 /// that carried it past that limit, if it was one.
 #[derive(Clone, Copy, PartialEq, Eq, Debug)]
 pub struct Fault {
+    /// The line that passes the limit.
     pub line: Line,
+    /// The number of the rider, from 1; `None` where the schedule beneath all riders is at fault.
     pub rider: Option<u16>,
 }
 
@@ -75,6 +77,35 @@ pub struct Numbers {
 }
 
 impl Refusal {
+    /// One refusal of each kind, in the order of their numbers; every month and place in it is 0.
+    pub const KINDS: [Refusal; 19] = [
+        Refusal::BookBlank { month: 0 },
+        Refusal::BookOpen,
+        Refusal::OpeningOutside,
+        Refusal::NoMonthFree,
+        Refusal::DaysOutside,
+        Refusal::NoSuchMonth { month: 0 },
+        Refusal::MonthFinal { month: 0 },
+        Refusal::NoSuchPlace { month: 0, place: 0 },
+        Refusal::OtherPoint { month: 0 },
+        Refusal::OutsideLimit { month: 0, place: 0 },
+        Refusal::Missing { month: 0, place: 0 },
+        Refusal::MonthBilled { month: 0 },
+        Refusal::MonthOpen { month: 0 },
+        Refusal::EarlierMonth { month: 0, place: 0 },
+        Refusal::LinePastLimit {
+            month: 0,
+            fault: Fault {
+                line: Line::SystemDemand,
+                rider: None,
+            },
+        },
+        Refusal::LedgerFull { month: 0, place: 0 },
+        Refusal::MonthDue { month: 0, place: 0 },
+        Refusal::FigureOutside { place: 0 },
+        Refusal::TooFewBytes,
+    ];
+
     /// The numbers by which the refusal is known.
     pub fn numbers(&self) -> Numbers
         ensures { result ≡ numbers_of self.now }

@@ -3,7 +3,7 @@ ghost use Rattle.tariff.specs.Sheets.{values_of};
 ghost use Rattle.tariff.proofs.DraftFigures.{inverse};
 ghost use Rattle.rates.specs.Dos.{dos_2009, dos_draft, dos_figures, dos_from_figures, dos_own};
 
-use tariff::{Draft, Figure, Figures, Own, Sealed};
+use tariff::{Draft, Figure, Figures, OwnFigures, Sealed};
 
 /// The published energy figure, in cents per MWh: AESO tariff, rate DOS 7 Minutes, 2009.
 pub const DOS_2009_ENERGY: i64 = 528;
@@ -73,7 +73,7 @@ impl Draft for DosDraft {
         }
     }
 
-    fn own() -> Own {
-        Own { first: 2, count: 2 }
+    fn own() -> OwnFigures {
+        OwnFigures { first: 2, count: 2 }
     }
 }

@@ -3,7 +3,7 @@ ghost use Rattle.tariff.specs.Sheets.{values_of};
 ghost use Rattle.tariff.proofs.DraftFigures.{inverse};
 ghost use Rattle.rates.specs.Sts.{sts_2009, sts_draft, sts_figures, sts_from_figures, sts_own};
 
-use tariff::{Draft, Figure, Figures, Own, Sealed};
+use tariff::{Draft, Figure, Figures, OwnFigures, Sealed};
 
 /// The published figure for the connection of units, in cents per MW: AESO tariff, rate STS, 2009.
 pub const STS_2009_UNIT_CONNECTION: i64 = 25_900;
@@ -65,7 +65,7 @@ impl Draft for StsDraft {
         }
     }
 
-    fn own() -> Own {
-        Own { first: 0, count: 2 }
+    fn own() -> OwnFigures {
+        OwnFigures { first: 0, count: 2 }
     }
 }

@@ -3,7 +3,7 @@ ghost use Rattle.tariff.specs.Sheets.{no_own, values_of};
 ghost use Rattle.tariff.proofs.DraftFigures.{inverse};
 ghost use Rattle.rates.specs.Xts.{xts_2007, xts_draft, xts_figures, xts_from_figures};
 
-use tariff::{Draft, Figure, Figures, Own, Sealed};
+use tariff::{Draft, Figure, Figures, OwnFigures, Sealed};
 
 /// The figures of a sheet of rate XTS that is still being filled in, any numbers. Each can be
 /// sealed from 0.
@@ -76,7 +76,7 @@ impl Draft for XtsDraft {
         }
     }
 
-    fn own() -> Own {
-        Own { first: 0, count: 0 }
+    fn own() -> OwnFigures {
+        OwnFigures { first: 0, count: 0 }
     }
 }
