@@ -87,16 +87,22 @@ impl SheetKind for RiderKind {
 /// The draft of any rider.
 #[derive(Clone, Copy, PartialEq, Eq, Debug)]
 pub enum RiderDraft {
+    /// So much for each MWh.
     Energy(EnergyDraft),
+    /// So much of all the lines beneath.
     Percent(PercentDraft),
+    /// The Primary Service Credit.
     Credit(CreditDraft),
 }
 
 /// The sealed sheet of any rider, which adds as that rider does.
 #[derive(Clone, Copy)]
 pub enum RiderSheet {
+    /// So much for each MWh.
     Energy(EnergySheet),
+    /// So much of all the lines beneath.
     Percent(PercentSheet),
+    /// The Primary Service Credit.
     Credit(CreditSheet),
 }
 

@@ -55,14 +55,14 @@ pub const GTS_2007: DtsDraft = DtsDraft {
 pub type DtsSheet = Sealed<DtsDraft>;
 
 impl DtsDraft {
-    /// The published figures of rate DTS.
+    /// The published figures of rate DTS: `DTS_2007`, as a call that promises them.
     pub fn dts_2007() -> DtsDraft
         ensures { result ≡ dts_2007 }
     {
         DTS_2007
     }
 
-    /// The published figures of rate GTS.
+    /// The published figures of rate GTS: `GTS_2007`, as a call that promises them.
     pub fn gts_2007() -> DtsDraft
         ensures { result ≡ gts_2007 }
     {

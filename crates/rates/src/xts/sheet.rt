@@ -31,7 +31,7 @@ pub const XTS_2007: XtsDraft = XtsDraft {
 pub type XtsSheet = Sealed<XtsDraft>;
 
 impl XtsDraft {
-    /// The published figures.
+    /// The published figures: `XTS_2007`, as a call that promises them.
     pub fn published_2007() -> XtsDraft
         ensures { result ≡ xts_2007 }
     {
