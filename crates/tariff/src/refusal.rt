@@ -125,20 +125,54 @@ impl Refusal {
         ensures { result ≡ numbers_of self.now }
     {
         match *self {
-            Refusal::BookBlank { month } => Numbers { month, ..Numbers::of_kind(1) },
+            Refusal::BookBlank { month } => Numbers {
+                month,
+                ..Numbers::of_kind(1)
+            },
             Refusal::BookOpen => Numbers::of_kind(2),
             Refusal::OpeningOutside => Numbers::of_kind(3),
             Refusal::NoMonthFree => Numbers::of_kind(4),
             Refusal::DaysOutside => Numbers::of_kind(5),
-            Refusal::NoSuchMonth { month } => Numbers { month, ..Numbers::of_kind(6) },
-            Refusal::MonthFinal { month } => Numbers { month, ..Numbers::of_kind(7) },
-            Refusal::NoSuchPlace { month, place } => Numbers { month, place, ..Numbers::of_kind(8) },
-            Refusal::OtherPoint { month } => Numbers { month, ..Numbers::of_kind(9) },
-            Refusal::OutsideLimit { month, place } => Numbers { month, place, ..Numbers::of_kind(10) },
-            Refusal::Missing { month, place } => Numbers { month, place, ..Numbers::of_kind(11) },
-            Refusal::MonthBilled { month } => Numbers { month, ..Numbers::of_kind(12) },
-            Refusal::MonthOpen { month } => Numbers { month, ..Numbers::of_kind(13) },
-            Refusal::EarlierMonth { month, place } => Numbers { month, place, ..Numbers::of_kind(14) },
+            Refusal::NoSuchMonth { month } => Numbers {
+                month,
+                ..Numbers::of_kind(6)
+            },
+            Refusal::MonthFinal { month } => Numbers {
+                month,
+                ..Numbers::of_kind(7)
+            },
+            Refusal::NoSuchPlace { month, place } => Numbers {
+                month,
+                place,
+                ..Numbers::of_kind(8)
+            },
+            Refusal::OtherPoint { month } => Numbers {
+                month,
+                ..Numbers::of_kind(9)
+            },
+            Refusal::OutsideLimit { month, place } => Numbers {
+                month,
+                place,
+                ..Numbers::of_kind(10)
+            },
+            Refusal::Missing { month, place } => Numbers {
+                month,
+                place,
+                ..Numbers::of_kind(11)
+            },
+            Refusal::MonthBilled { month } => Numbers {
+                month,
+                ..Numbers::of_kind(12)
+            },
+            Refusal::MonthOpen { month } => Numbers {
+                month,
+                ..Numbers::of_kind(13)
+            },
+            Refusal::EarlierMonth { month, place } => Numbers {
+                month,
+                place,
+                ..Numbers::of_kind(14)
+            },
             Refusal::LinePastLimit {
                 month,
                 fault: Fault { line, rider },
@@ -148,9 +182,20 @@ impl Refusal {
                 rider: rider.unwrap_or(0),
                 ..Numbers::of_kind(15)
             },
-            Refusal::LedgerFull { month, place } => Numbers { month, place, ..Numbers::of_kind(16) },
-            Refusal::MonthDue { month, place } => Numbers { month, place, ..Numbers::of_kind(17) },
-            Refusal::FigureOutside { place } => Numbers { place, ..Numbers::of_kind(18) },
+            Refusal::LedgerFull { month, place } => Numbers {
+                month,
+                place,
+                ..Numbers::of_kind(16)
+            },
+            Refusal::MonthDue { month, place } => Numbers {
+                month,
+                place,
+                ..Numbers::of_kind(17)
+            },
+            Refusal::FigureOutside { place } => Numbers {
+                place,
+                ..Numbers::of_kind(18)
+            },
             Refusal::TooFewBytes => Numbers::of_kind(19),
         }
     }
