@@ -3,7 +3,7 @@ use Rattle.std.proofs.Common.{◌≡◌, ℕ, ◌+◌, ◌≤◌, ◌==◌, ◌+
 use Rattle.std.proofs.Math.Seq.{drop-append_seam, take-append_seam}
 use Rattle.std.proofs.lemmas.Bool.{eqb-true}
 use Rattle.std.proofs.lemmas.List.{drop-drop, drop_all, length-drop, length-take-le, take-append-drop}
-use Rattle.tariff.specs.Sheets.{OwnPlaces}
+use Rattle.tariff.specs.declared.figures.OwnFigures.{OwnFigures}
 use Rattle.journal.specs.Drafts.{complete_figures, line_order, sheet_order}
 
 -- what two parts were exchanged to is exchanged back
@@ -23,7 +23,7 @@ exchanged a b rest f c first count =
     rw (after, front, others, own) refl
 
 -- a line that has all the figures is not completed
-complete_line : (own : OwnPlaces) (published line : List ℤ) → own.first + own.count ≤ length line
+complete_line : (own : OwnFigures) (published line : List ℤ) → own.first + own.count ≤ length line
     → length published ≡ length line → complete_figures own published line ≡ line
 complete_line own published line within same =
     go (length line == own.count) (eqb-true (length line) own.count)
@@ -40,7 +40,7 @@ complete_line own published line within same =
         ap (λ n. line ++ take n published ++ drop (own.first + own.count) published) none
         ∙ ap (λ rest. line ++ [] ++ rest) past ∙ append-nil (line ++ []) ∙ append-nil line
 
-pub figures_again : (own : OwnPlaces) (published figures : List ℤ) → own.first + own.count ≤ length figures
+pub figures_again : (own : OwnFigures) (published figures : List ℤ) → own.first + own.count ≤ length figures
     → length published ≡ length figures
     → sheet_order own (complete_figures own published (line_order own figures)) ≡ figures
 figures_again own published figures within same =

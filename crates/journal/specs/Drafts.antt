@@ -1,7 +1,8 @@
 -- Rates and riders in words: the kind of a sheet, and its figures.
 use Rattle.std.specs.Prelude.{ℕ, ◌+◌, ◌==◌, ◌++◌, if◌then◌else◌, List, ◌∷◌, length, map, take, drop, ℤ, Option, Some, None, bytes_eq, codes}
 use Rattle.std.specs.Fmt.{signed_decimal}
-use Rattle.tariff.specs.Sheets.{FigureList, OwnPlaces}
+use Rattle.tariff.specs.Sheets.{FigureList}
+use Rattle.tariff.specs.declared.figures.OwnFigures.{OwnFigures}
 use Rattle.tariff.specs.Sheets.{values_of as figure_values}
 use Rattle.piles.specs.Rates.{rate_figures, rate_from_figures, rate_kind, rate_own, rate_published}
 use Rattle.piles.specs.Riders.{rider_figures, rider_from_figures, rider_kind, rider_own, rider_published}
@@ -44,30 +45,30 @@ rider_named word =
     else None
 
 -- the figures of a sheet as a line has them: the customer's own, and then the others
-abbrev pub line_order : OwnPlaces → List ℤ → List ℤ
+abbrev pub line_order : OwnFigures → List ℤ → List ℤ
 line_order own figures =
     take own.count (drop own.first figures) ++ take own.first figures ++ drop (own.first + own.count) figures
 
 -- and back: the figures of a line as the sheet has them
-abbrev pub sheet_order : OwnPlaces → List ℤ → List ℤ
+abbrev pub sheet_order : OwnFigures → List ℤ → List ℤ
 sheet_order own figures = line_order (record { first = own.count; count = own.first }) figures
 
 -- where only the customer's own figures are given, the published sheet has the others
-abbrev pub complete_figures : OwnPlaces → List ℤ → List ℤ → List ℤ
+abbrev pub complete_figures : OwnFigures → List ℤ → List ℤ → List ℤ
 complete_figures own published given =
     if length given == own.count
     then given ++ take own.first published ++ drop (own.first + own.count) published
     else given
 
 -- the draft of a kind, of the figures that a line gives
-abbrev pub draft_of_figures : {K D : Type 0} → (K → OwnPlaces) → (K → D) → (D → FigureList)
+abbrev pub draft_of_figures : {K D : Type 0} → (K → OwnFigures) → (K → D) → (D → FigureList)
     → (K → List ℤ → Option D) → K → List ℤ → Option D
 draft_of_figures own published figures from_figures kind given =
     let all = complete_figures (own kind) (figure_values (figures (published kind))) given in
     from_figures kind (sheet_order (own kind) all)
 
 -- the draft that words name: the word of a kind, and figures
-abbrev pub draft_of : {K D : Type 0} → (List ℕ → Option K) → (K → OwnPlaces) → (K → D) → (D → FigureList)
+abbrev pub draft_of : {K D : Type 0} → (List ℕ → Option K) → (K → OwnFigures) → (K → D) → (D → FigureList)
     → (K → List ℤ → Option D) → List (List ℕ) → Option D
 draft_of named own published figures from_figures words = do
   name ← first_word words
@@ -76,7 +77,7 @@ draft_of named own published figures from_figures words = do
   draft_of_figures own published figures from_figures kind given
 
 -- the words that write a draft
-abbrev pub draft_words : {K D : Type 0} → (K → List ℕ) → (D → K) → (K → OwnPlaces) → (D → FigureList) → D
+abbrev pub draft_words : {K D : Type 0} → (K → List ℕ) → (D → K) → (K → OwnFigures) → (D → FigureList) → D
     → List (List ℕ)
 draft_words word kind_of own figures draft =
     let kind = kind_of draft in

@@ -10,7 +10,7 @@ use crate::token::{parse_all, write_all};
 use crate::words::next_word;
 use piles::{RateKind, RiderKind, SheetKind};
 use std::alloc::{AllocError, Global};
-use tariff::{Figures, Own};
+use tariff::{Figures, OwnFigures};
 
 // A kind of sheet by the word that names it.
 pub(crate) trait NamedKind: SheetKind {
@@ -98,7 +98,7 @@ fn values(alloc: Global, figures: &Figures) -> Result<Vec<i64>, AllocError>
 
 // The figures of a sheet as a line has them, the customer's own before the others. With the two
 // counts of `own` exchanged it is the way back.
-fn line_order(alloc: Global, own: Own, figures: &[i64]) -> Result<Vec<i64>, AllocError>
+fn line_order(alloc: Global, own: OwnFigures, figures: &[i64]) -> Result<Vec<i64>, AllocError>
     requires { own.first + own.count ≤ length figures.now }
     ensures { IfOk result (λ ordered. ordered.items ≡ line_order own figures.now) }
 {
@@ -111,7 +111,7 @@ fn line_order(alloc: Global, own: Own, figures: &[i64]) -> Result<Vec<i64>, Allo
 }
 
 // Where only the customer's own figures are given, the published sheet has the others.
-fn complete(given: &mut Vec<i64>, own: Own, published: &[i64]) -> Result<(), AllocError>
+fn complete(given: &mut Vec<i64>, own: OwnFigures, published: &[i64]) -> Result<(), AllocError>
     requires { own.first + own.count ≤ length published.now }
     ensures { OnOk result (given.new.items ≡ complete_figures own published.now given.old.items) }
 {
@@ -145,7 +145,7 @@ pub(crate) fn parse_draft<K: NamedKind>(
     if given.len() != published.len() {
         return Ok(None);
     }
-    let back = Own {
+    let back = OwnFigures {
         first: own.count,
         count: own.first,
     };

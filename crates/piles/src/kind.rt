@@ -1,7 +1,8 @@
 ghost use Rattle.std.specs.Prelude.{◌≡◌, ◌↔◌, List, ℤ, Option, Some, length, IsSome};
-ghost use Rattle.tariff.specs.Sheets.{FigureList, OwnPlaces, figure_list, values_of};
+ghost use Rattle.tariff.specs.Sheets.{FigureList, figure_list, values_of};
+ghost use Rattle.tariff.specs.declared.figures.OwnFigures.{OwnFigures};
 
-use tariff::{Figures, Own};
+use tariff::{Figures, OwnFigures};
 
 /// A kind of sheet that is chosen at run time: which rate, or which rider.
 pub trait SheetKind: Copy {
@@ -17,7 +18,7 @@ pub trait SheetKind: Copy {
 
     ghost published: { Self → Self.Draft };
 
-    ghost own: { Self → OwnPlaces };
+    ghost own: { Self → OwnFigures };
 
     /// Which kind a draft is of.
     fn of(draft: &Self::Draft) -> Self
@@ -36,7 +37,7 @@ pub trait SheetKind: Copy {
         ensures { result ≡ published self };
 
     /// Which figures are the customer's own.
-    fn own(self) -> Own
+    fn own(self) -> OwnFigures
         ensures { result ≡ own self };
 
     // a draft is made again of its own figures

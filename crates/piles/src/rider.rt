@@ -8,7 +8,7 @@ use riders::Adjustment;
 use riders::credit::{CreditDraft, CreditSheet};
 use riders::energy::{EnergyDraft, EnergySheet};
 use riders::percent::{PercentDraft, PercentSheet};
-use tariff::{Amounts, Draft, Facts, Figures, Fraction, Hours, Line, Own, Refusal};
+use tariff::{Amounts, Draft, Facts, Figures, Fraction, Hours, Line, OwnFigures, Refusal};
 
 /// Which rider stands over a schedule.
 #[derive(Clone, Copy, PartialEq, Eq, Debug)]
@@ -75,7 +75,7 @@ impl SheetKind for RiderKind {
         }
     }
 
-    fn own(self) -> Own {
+    fn own(self) -> OwnFigures {
         match self {
             RiderKind::Energy => EnergyDraft::own(),
             RiderKind::Percent => PercentDraft::own(),
@@ -87,16 +87,22 @@ impl SheetKind for RiderKind {
 /// The draft of any rider.
 #[derive(Clone, Copy, PartialEq, Eq, Debug)]
 pub enum RiderDraft {
+    /// So much for each MWh.
     Energy(EnergyDraft),
+    /// So much of all the lines beneath.
     Percent(PercentDraft),
+    /// The Primary Service Credit.
     Credit(CreditDraft),
 }
 
 /// The sealed sheet of any rider, which adds as that rider does.
 #[derive(Clone, Copy)]
 pub enum RiderSheet {
+    /// So much for each MWh.
     Energy(EnergySheet),
+    /// So much of all the lines beneath.
     Percent(PercentSheet),
+    /// The Primary Service Credit.
     Credit(CreditSheet),
 }
 

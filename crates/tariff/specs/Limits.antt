@@ -42,7 +42,7 @@ RowsWithin rows = (k : ℕ) → HourWithin (slice_index_or rows k no_row)
 abbrev pub most_hours : ℕ
 most_hours = MOST_HOURS
 
--- the lines of a statement
+-- the lines of a bill
 abbrev pub line_count : ℕ
 line_count = LINES
 

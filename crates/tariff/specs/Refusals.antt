@@ -7,29 +7,34 @@ use Rattle.tariff.specs.declared.refusal.Numbers.{Numbers}
 use Rattle.tariff.specs.declared.refusal.Refusal.{Refusal}
 use Rattle.tariff.specs.declared.refusal.Refusal.TheVariants.{BookBlank, BookOpen, OpeningOutside, NoMonthFree, DaysOutside, NoSuchMonth, MonthFinal, NoSuchPlace, OtherPoint, OutsideLimit, Missing, MonthBilled, MonthOpen, EarlierMonth, LinePastLimit, LedgerFull, MonthDue, FigureOutside, TooFewBytes}
 
-abbrev four : ℕ → ℕ → ℕ → ℕ → Numbers
-four number month place rider = record { number = number; month = month; place = place; rider = rider }
+-- the number of a kind, with no month, place or rider
+abbrev pub kind_numbers : ℕ → Numbers
+kind_numbers number = record { number = number; month = 0; place = 0; rider = 0 }
 
 abbrev pub numbers_of : Refusal → Numbers
-numbers_of (BookBlank month) = four 1 month 0 0
-numbers_of BookOpen = four 2 0 0 0
-numbers_of OpeningOutside = four 3 0 0 0
-numbers_of NoMonthFree = four 4 0 0 0
-numbers_of DaysOutside = four 5 0 0 0
-numbers_of (NoSuchMonth month) = four 6 month 0 0
-numbers_of (MonthFinal month) = four 7 month 0 0
-numbers_of (NoSuchPlace month place) = four 8 month place 0
-numbers_of (OtherPoint month) = four 9 month 0 0
-numbers_of (OutsideLimit month place) = four 10 month place 0
-numbers_of (Missing month place) = four 11 month place 0
-numbers_of (MonthBilled month) = four 12 month 0 0
-numbers_of (MonthOpen month) = four 13 month 0 0
-numbers_of (EarlierMonth month place) = four 14 month place 0
-numbers_of (LinePastLimit month fault) = four 15 month (number_of fault.line) (unwrap_or fault.rider 0)
-numbers_of (LedgerFull month place) = four 16 month place 0
-numbers_of (MonthDue month place) = four 17 month place 0
-numbers_of (FigureOutside place) = four 18 0 place 0
-numbers_of TooFewBytes = four 19 0 0 0
+numbers_of (BookBlank month) = record (kind_numbers 1) { month = month }
+numbers_of BookOpen = kind_numbers 2
+numbers_of OpeningOutside = kind_numbers 3
+numbers_of NoMonthFree = kind_numbers 4
+numbers_of DaysOutside = kind_numbers 5
+numbers_of (NoSuchMonth month) = record (kind_numbers 6) { month = month }
+numbers_of (MonthFinal month) = record (kind_numbers 7) { month = month }
+numbers_of (NoSuchPlace month place) = record (kind_numbers 8) { month = month; place = place }
+numbers_of (OtherPoint month) = record (kind_numbers 9) { month = month }
+numbers_of (OutsideLimit month place) = record (kind_numbers 10) { month = month; place = place }
+numbers_of (Missing month place) = record (kind_numbers 11) { month = month; place = place }
+numbers_of (MonthBilled month) = record (kind_numbers 12) { month = month }
+numbers_of (MonthOpen month) = record (kind_numbers 13) { month = month }
+numbers_of (EarlierMonth month place) = record (kind_numbers 14) { month = month; place = place }
+numbers_of (LinePastLimit month fault) = record (kind_numbers 15) {
+  month = month;
+  place = number_of fault.line;
+  rider = unwrap_or fault.rider 0;
+}
+numbers_of (LedgerFull month place) = record (kind_numbers 16) { month = month; place = place }
+numbers_of (MonthDue month place) = record (kind_numbers 17) { month = month; place = place }
+numbers_of (FigureOutside place) = record (kind_numbers 18) { place = place }
+numbers_of TooFewBytes = kind_numbers 19
 
 -- a refusal in print: the word and the four numbers, one space between
 abbrev pub refusal_text : Refusal → List ℕ

@@ -5,18 +5,14 @@ use Rattle.tariff.specs.declared.refusal.Refusal.{Refusal}
 use Rattle.tariff.specs.declared.refusal.Refusal.TheVariants.{FigureOutside}
 use Rattle.tariff.specs.declared.figure.Figure.{Figure}
 use Rattle.tariff.specs.declared.figures.Figures.{Figures}
-use Rattle.tariff.specs.declared.figures.Own.{Own}
+use Rattle.tariff.specs.declared.figures.OwnFigures.{OwnFigures}
 
 -- the figures of a sheet in their order
 abbrev pub FigureList : Type 0
 FigureList = List Figure
 
--- which of the figures are the customer's own
-abbrev pub OwnPlaces : Type 0
-OwnPlaces = Own
-
 -- no figure is the customer's own
-abbrev pub no_own : OwnPlaces
+abbrev pub no_own : OwnFigures
 no_own = record { first = 0; count = 0 }
 
 abbrev pub figure_list : Figures → FigureList
@@ -28,9 +24,9 @@ values_of figures = map (λ figure. figure.value) figures
 abbrev pub value_at : List ℤ → ℕ → ℤ
 value_at values place = slice_index_or values place (pos 0)
 
--- a draft, where just so many figures are given for it
-abbrev pub complete_draft : {D : Type 0} → ℕ → List ℤ → D → Option D
-complete_draft count values draft = if length values == count then Some draft else None
+-- a draft, where just as many figures are given for it as it has
+abbrev pub complete_draft : {D : Type 0} → (D → FigureList) → List ℤ → D → Option D
+complete_draft figures values draft = if length values == length (figures draft) then Some draft else None
 
 abbrev pub FigureWithin : Figure → Type 0
 FigureWithin figure = (figure.low ≤ℤ figure.value) × (figure.value ≤ℤ figure.high)

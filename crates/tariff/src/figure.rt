@@ -3,11 +3,15 @@ ghost use Rattle.tariff.specs.Sheets.{FigureWithin};
 
 use crate::limits::WithinLimits;
 
-/// A figure of a sheet in the unit of the sheet, with the least and the most that it can be sealed at.
+/// A figure of a sheet, in the unit that its draft says, with the limits within which it can be
+/// sealed.
 #[derive(Clone, Copy, PartialEq, Eq, Debug)]
 pub struct Figure {
+    /// What was filled in, any number.
     pub value: i64,
+    /// The least that it can be sealed at.
     pub low: i64,
+    /// The most that it can be sealed at.
     pub high: i64,
 }
 

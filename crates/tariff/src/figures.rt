@@ -40,7 +40,9 @@ impl Figures {
 /// Which of a sheet's figures are the customer's own: so many from a place on, counted from 0. The
 /// published sheet has all the others.
 #[derive(Clone, Copy, PartialEq, Eq, Debug)]
-pub struct Own {
+pub struct OwnFigures {
+    /// The place of the first of them, from 0; 0 where there are none.
     pub first: usize,
+    /// How many there are.
     pub count: usize,
 }

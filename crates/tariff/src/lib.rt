@@ -1,4 +1,4 @@
-//! The pricing of a month of transmission service: what is billed for, the lines of a statement,
+//! The pricing of a month of transmission service: what is billed for, the lines of a bill,
 //! exact money and its one rounding, sheets of figures, and what a schedule is that prices. Free of
 //! the heap: it allocates nothing.
 
@@ -23,7 +23,7 @@ pub use amounts::{Amounts, Lines};
 pub use charges::Charges;
 pub use facts::{Capacities, Facts, PlainFacts};
 pub use figure::Figure;
-pub use figures::{Figures, MOST_FIGURES, Own};
+pub use figures::{Figures, MOST_FIGURES, OwnFigures};
 pub use hours::{HourList, HourRow, Hours};
 pub use limits::{MOST_CENTS, MOST_DEMAND, MOST_ENERGY, MOST_HOURS, MOST_PRICE};
 pub use line::{LINES, Line};

@@ -13,7 +13,7 @@ pub const MOST_PRICE: u32 = 99_999;
 /// The most hours that a month has: those of 31 days.
 pub const MOST_HOURS: usize = 744;
 
-/// The most that one line of a statement can come to, in cents, either way.
+/// The most that one line of a bill can come to, in cents, either way.
 pub const MOST_CENTS: u64 = 200_000_000_000;
 
 pub(crate) trait WithinLimits {

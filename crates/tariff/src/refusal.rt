@@ -1,6 +1,6 @@
 ghost use Rattle.std.specs.Prelude.{◌≡◌, Some};
 ghost use Rattle.tariff.specs.declared.refusal.Refusal.TheVariants.{LinePastLimit};
-ghost use Rattle.tariff.specs.Refusals.{fault_text, numbers_of, refusal_text};
+ghost use Rattle.tariff.specs.Refusals.{fault_text, kind_numbers, numbers_of, refusal_text};
 
 use crate::line::Line;
 use std::error::Error;
@@ -10,7 +10,9 @@ use std::fmt;
 /// that carried it past that limit, if it was one.
 #[derive(Clone, Copy, PartialEq, Eq, Debug)]
 pub struct Fault {
+    /// The line that passes the limit.
     pub line: Line,
+    /// The number of the rider, from 1; `None` where the schedule beneath all riders is at fault.
     pub rider: Option<u16>,
 }
 
@@ -74,40 +76,127 @@ pub struct Numbers {
     pub rider: u16,
 }
 
+impl Numbers {
+    // Those of a kind of refusal that has no month, place or rider.
+    fn of_kind(number: u8) -> Numbers
+        ensures { result ≡ kind_numbers number }
+    {
+        Numbers {
+            number,
+            month: 0,
+            place: 0,
+            rider: 0,
+        }
+    }
+}
+
 impl Refusal {
+    /// One refusal of each kind, in the order of their numbers; every month and place in it is 0.
+    pub const KINDS: [Refusal; 19] = [
+        Refusal::BookBlank { month: 0 },
+        Refusal::BookOpen,
+        Refusal::OpeningOutside,
+        Refusal::NoMonthFree,
+        Refusal::DaysOutside,
+        Refusal::NoSuchMonth { month: 0 },
+        Refusal::MonthFinal { month: 0 },
+        Refusal::NoSuchPlace { month: 0, place: 0 },
+        Refusal::OtherPoint { month: 0 },
+        Refusal::OutsideLimit { month: 0, place: 0 },
+        Refusal::Missing { month: 0, place: 0 },
+        Refusal::MonthBilled { month: 0 },
+        Refusal::MonthOpen { month: 0 },
+        Refusal::EarlierMonth { month: 0, place: 0 },
+        Refusal::LinePastLimit {
+            month: 0,
+            fault: Fault {
+                line: Line::SystemDemand,
+                rider: None,
+            },
+        },
+        Refusal::LedgerFull { month: 0, place: 0 },
+        Refusal::MonthDue { month: 0, place: 0 },
+        Refusal::FigureOutside { place: 0 },
+        Refusal::TooFewBytes,
+    ];
+
     /// The numbers by which the refusal is known.
     pub fn numbers(&self) -> Numbers
         ensures { result ≡ numbers_of self.now }
     {
-        let (number, month, place, rider) = match *self {
-            Refusal::BookBlank { month } => (1, month, 0, 0),
-            Refusal::BookOpen => (2, 0, 0, 0),
-            Refusal::OpeningOutside => (3, 0, 0, 0),
-            Refusal::NoMonthFree => (4, 0, 0, 0),
-            Refusal::DaysOutside => (5, 0, 0, 0),
-            Refusal::NoSuchMonth { month } => (6, month, 0, 0),
-            Refusal::MonthFinal { month } => (7, month, 0, 0),
-            Refusal::NoSuchPlace { month, place } => (8, month, place, 0),
-            Refusal::OtherPoint { month } => (9, month, 0, 0),
-            Refusal::OutsideLimit { month, place } => (10, month, place, 0),
-            Refusal::Missing { month, place } => (11, month, place, 0),
-            Refusal::MonthBilled { month } => (12, month, 0, 0),
-            Refusal::MonthOpen { month } => (13, month, 0, 0),
-            Refusal::EarlierMonth { month, place } => (14, month, place, 0),
+        match *self {
+            Refusal::BookBlank { month } => Numbers {
+                month,
+                ..Numbers::of_kind(1)
+            },
+            Refusal::BookOpen => Numbers::of_kind(2),
+            Refusal::OpeningOutside => Numbers::of_kind(3),
+            Refusal::NoMonthFree => Numbers::of_kind(4),
+            Refusal::DaysOutside => Numbers::of_kind(5),
+            Refusal::NoSuchMonth { month } => Numbers {
+                month,
+                ..Numbers::of_kind(6)
+            },
+            Refusal::MonthFinal { month } => Numbers {
+                month,
+                ..Numbers::of_kind(7)
+            },
+            Refusal::NoSuchPlace { month, place } => Numbers {
+                month,
+                place,
+                ..Numbers::of_kind(8)
+            },
+            Refusal::OtherPoint { month } => Numbers {
+                month,
+                ..Numbers::of_kind(9)
+            },
+            Refusal::OutsideLimit { month, place } => Numbers {
+                month,
+                place,
+                ..Numbers::of_kind(10)
+            },
+            Refusal::Missing { month, place } => Numbers {
+                month,
+                place,
+                ..Numbers::of_kind(11)
+            },
+            Refusal::MonthBilled { month } => Numbers {
+                month,
+                ..Numbers::of_kind(12)
+            },
+            Refusal::MonthOpen { month } => Numbers {
+                month,
+                ..Numbers::of_kind(13)
+            },
+            Refusal::EarlierMonth { month, place } => Numbers {
+                month,
+                place,
+                ..Numbers::of_kind(14)
+            },
             Refusal::LinePastLimit {
                 month,
                 fault: Fault { line, rider },
-            } => (15, month, line.number().into(), rider.unwrap_or(0)),
-            Refusal::LedgerFull { month, place } => (16, month, place, 0),
-            Refusal::MonthDue { month, place } => (17, month, place, 0),
-            Refusal::FigureOutside { place } => (18, 0, place, 0),
-            Refusal::TooFewBytes => (19, 0, 0, 0),
-        };
-        Numbers {
-            number,
-            month,
-            place,
-            rider,
+            } => Numbers {
+                month,
+                place: line.number().into(),
+                rider: rider.unwrap_or(0),
+                ..Numbers::of_kind(15)
+            },
+            Refusal::LedgerFull { month, place } => Numbers {
+                month,
+                place,
+                ..Numbers::of_kind(16)
+            },
+            Refusal::MonthDue { month, place } => Numbers {
+                month,
+                place,
+                ..Numbers::of_kind(17)
+            },
+            Refusal::FigureOutside { place } => Numbers {
+                place,
+                ..Numbers::of_kind(18)
+            },
+            Refusal::TooFewBytes => Numbers::of_kind(19),
         }
     }
 }

@@ -1,8 +1,9 @@
 ghost use Rattle.std.specs.Prelude.{◌≡◌, ◌↔◌, List, ℤ, Option, Some, MatchResult};
 ghost use Rattle.tariff.specs.Refusals.{refusal_text};
-ghost use Rattle.tariff.specs.Sheets.{FigureList, FiguresWithin, IsFirstOutside, OwnPlaces, figure_list, values_of};
+ghost use Rattle.tariff.specs.Sheets.{FigureList, FiguresWithin, IsFirstOutside, figure_list, values_of};
+ghost use Rattle.tariff.specs.declared.figures.OwnFigures.{OwnFigures};
 
-use crate::figures::{Figures, Own};
+use crate::figures::{Figures, OwnFigures};
 use crate::limits::first_outside;
 use crate::refusal::Refusal;
 use std::alloc::AllocError;
@@ -12,7 +13,9 @@ use std::fmt;
 /// A draft that could not be sealed, as it was, with the reason.
 #[derive(Clone, Copy, PartialEq, Eq, Debug)]
 pub struct Unsealed<D> {
+    /// Why: the first figure outside its limits.
     pub refusal: Refusal,
+    /// As it was given.
     pub draft: D,
 }
 
@@ -42,7 +45,7 @@ pub trait Draft: Copy {
     // the draft of these figures, where there are just so many
     ghost from_figures: { List ℤ → Option Self };
 
-    ghost own: { OwnPlaces };
+    ghost own: { OwnFigures };
 
     /// The figures in the order of the sheet, each with its limits.
     fn figures(&self) -> Figures
@@ -53,7 +56,7 @@ pub trait Draft: Copy {
         ensures { result ≡ from_figures values.now };
 
     /// Which figures are the customer's own.
-    fn own() -> Own
+    fn own() -> OwnFigures
         ensures { result ≡ own };
 
     /// Refused where a figure is outside its limits, with the place of the first such, from 1; the
@@ -88,7 +91,6 @@ pub struct Sealed<D: Draft> {
 
 impl<D: Draft> Copy for Sealed<D> {}
 
-// By hand, since a struct with a ghost field and a type parameter has no derived copy.
 impl<D: Draft> Clone for Sealed<D> {
     fn clone(&self) -> Result<Sealed<D>, AllocError> {
         Ok(*self)

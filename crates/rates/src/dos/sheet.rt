@@ -3,7 +3,7 @@ ghost use Rattle.tariff.specs.Sheets.{values_of};
 ghost use Rattle.tariff.proofs.DraftFigures.{inverse};
 ghost use Rattle.rates.specs.Dos.{dos_2009, dos_draft, dos_figures, dos_from_figures, dos_own};
 
-use tariff::{Draft, Figure, Figures, Own, Sealed};
+use tariff::{Draft, Figure, Figures, MOST_DEMAND, OwnFigures, Sealed};
 
 /// The published energy figure, in cents per MWh: AESO tariff, rate DOS 7 Minutes, 2009.
 pub const DOS_2009_ENERGY: i64 = 528;
@@ -18,7 +18,7 @@ pub struct DosDraft {
     pub energy: i64,
     /// Cents per month, from 0 to 10,000,000.
     pub transaction_fee: i64,
-    /// The customer's own: kW, from 1 to 1,000,000.
+    /// The customer's own: kW, from 1 to `MOST_DEMAND`.
     pub opportunity_capacity: i64,
     /// The customer's own: hundredths of a percent of the pool price, from -10,000 (a credit) to 10,000.
     pub loss_factor: i64,
@@ -56,7 +56,7 @@ impl Draft for DosDraft {
         Figures::new(&[
             Figure::between(0, 100_000, self.energy),
             Figure::between(0, 10_000_000, self.transaction_fee),
-            Figure::between(1, 1_000_000, self.opportunity_capacity),
+            Figure::between(1, MOST_DEMAND.into(), self.opportunity_capacity),
             Figure::between(-10_000, 10_000, self.loss_factor),
         ])
     }
@@ -73,7 +73,7 @@ impl Draft for DosDraft {
         }
     }
 
-    fn own() -> Own {
-        Own { first: 2, count: 2 }
+    fn own() -> OwnFigures {
+        OwnFigures { first: 2, count: 2 }
     }
 }

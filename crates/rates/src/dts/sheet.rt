@@ -3,7 +3,7 @@ ghost use Rattle.tariff.specs.Sheets.{no_own, values_of};
 ghost use Rattle.tariff.proofs.DraftFigures.{inverse};
 ghost use Rattle.rates.specs.Dts.{dts_2007, dts_draft, dts_figures, dts_from_figures, gts_2007};
 
-use tariff::{Draft, Figure, Figures, Own, Sealed};
+use tariff::{Draft, Figure, Figures, OwnFigures, Sealed};
 
 /// The figures of a sheet of rate DTS or GTS that is still being filled in, any numbers. Each can
 /// be sealed from 0.
@@ -55,14 +55,14 @@ pub const GTS_2007: DtsDraft = DtsDraft {
 pub type DtsSheet = Sealed<DtsDraft>;
 
 impl DtsDraft {
-    /// The published figures of rate DTS.
+    /// The published figures of rate DTS: `DTS_2007`, as a call that promises them.
     pub fn dts_2007() -> DtsDraft
         ensures { result ≡ dts_2007 }
     {
         DTS_2007
     }
 
-    /// The published figures of rate GTS.
+    /// The published figures of rate GTS: `GTS_2007`, as a call that promises them.
     pub fn gts_2007() -> DtsDraft
         ensures { result ≡ gts_2007 }
     {
@@ -119,7 +119,7 @@ impl Draft for DtsDraft {
         }
     }
 
-    fn own() -> Own {
-        Own { first: 0, count: 0 }
+    fn own() -> OwnFigures {
+        OwnFigures { first: 0, count: 0 }
     }
 }

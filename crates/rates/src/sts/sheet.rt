@@ -3,7 +3,7 @@ ghost use Rattle.tariff.specs.Sheets.{values_of};
 ghost use Rattle.tariff.proofs.DraftFigures.{inverse};
 ghost use Rattle.rates.specs.Sts.{sts_2009, sts_draft, sts_figures, sts_from_figures, sts_own};
 
-use tariff::{Draft, Figure, Figures, Own, Sealed};
+use tariff::{Draft, Figure, Figures, MOST_DEMAND, OwnFigures, Sealed};
 
 /// The published figure for the connection of units, in cents per MW: AESO tariff, rate STS, 2009.
 pub const STS_2009_UNIT_CONNECTION: i64 = 25_900;
@@ -13,7 +13,7 @@ pub const STS_2009_UNIT_CONNECTION: i64 = 25_900;
 pub struct StsDraft {
     /// The customer's own: hundredths of a percent of the pool price, from -10,000 (a credit) to 10,000.
     pub loss_factor: i64,
-    /// The customer's own: kW, from 0 to 1,000,000.
+    /// The customer's own: kW, from 0 to `MOST_DEMAND`.
     pub unit_rating: i64,
     /// Cents per MW, from 0 to 10,000,000.
     pub unit_connection: i64,
@@ -49,7 +49,7 @@ impl Draft for StsDraft {
     fn figures(&self) -> Figures {
         Figures::new(&[
             Figure::between(-10_000, 10_000, self.loss_factor),
-            Figure::between(0, 1_000_000, self.unit_rating),
+            Figure::between(0, MOST_DEMAND.into(), self.unit_rating),
             Figure::between(0, 10_000_000, self.unit_connection),
         ])
     }
@@ -65,7 +65,7 @@ impl Draft for StsDraft {
         }
     }
 
-    fn own() -> Own {
-        Own { first: 0, count: 2 }
+    fn own() -> OwnFigures {
+        OwnFigures { first: 0, count: 2 }
     }
 }

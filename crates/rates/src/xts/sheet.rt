@@ -3,7 +3,7 @@ ghost use Rattle.tariff.specs.Sheets.{no_own, values_of};
 ghost use Rattle.tariff.proofs.DraftFigures.{inverse};
 ghost use Rattle.rates.specs.Xts.{xts_2007, xts_draft, xts_figures, xts_from_figures};
 
-use tariff::{Draft, Figure, Figures, Own, Sealed};
+use tariff::{Draft, Figure, Figures, OwnFigures, Sealed};
 
 /// The figures of a sheet of rate XTS that is still being filled in, any numbers. Each can be
 /// sealed from 0.
@@ -31,7 +31,7 @@ pub const XTS_2007: XtsDraft = XtsDraft {
 pub type XtsSheet = Sealed<XtsDraft>;
 
 impl XtsDraft {
-    /// The published figures.
+    /// The published figures: `XTS_2007`, as a call that promises them.
     pub fn published_2007() -> XtsDraft
         ensures { result ≡ xts_2007 }
     {
@@ -76,7 +76,7 @@ impl Draft for XtsDraft {
         }
     }
 
-    fn own() -> Own {
-        Own { first: 0, count: 0 }
+    fn own() -> OwnFigures {
+        OwnFigures { first: 0, count: 0 }
     }
 }

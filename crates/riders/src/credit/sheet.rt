@@ -3,7 +3,7 @@ ghost use Rattle.tariff.specs.Sheets.{values_of};
 ghost use Rattle.tariff.proofs.DraftFigures.{inverse};
 ghost use Rattle.riders.specs.Credit.{credit_draft, credit_figures, credit_from_figures, credit_own, psc_2009};
 
-use tariff::{Draft, Figure, Figures, Own, Sealed};
+use tariff::{Draft, Figure, Figures, OwnFigures, Sealed};
 
 /// The figures of a Primary Service Credit that is still being filled in, any numbers. A band is of
 /// billing capacity times substation total over contract; each of its figures is in cents per MW,
@@ -83,7 +83,7 @@ impl Draft for CreditDraft {
         }
     }
 
-    fn own() -> Own {
-        Own { first: 0, count: 1 }
+    fn own() -> OwnFigures {
+        OwnFigures { first: 0, count: 1 }
     }
 }

@@ -3,7 +3,7 @@ ghost use Rattle.tariff.specs.Sheets.{values_of};
 ghost use Rattle.tariff.proofs.DraftFigures.{inverse};
 ghost use Rattle.riders.specs.Energy.{energy_draft, energy_figures, energy_from_figures, energy_own};
 
-use tariff::{Draft, Figure, Figures, Own, Sealed};
+use tariff::{Draft, Figure, Figures, OwnFigures, Sealed};
 
 /// The figures of an energy rider that is still being filled in, any numbers; both are the
 /// customer's own.
@@ -43,7 +43,7 @@ impl Draft for EnergyDraft {
         }
     }
 
-    fn own() -> Own {
-        Own { first: 0, count: 2 }
+    fn own() -> OwnFigures {
+        OwnFigures { first: 0, count: 2 }
     }
 }

@@ -3,7 +3,7 @@ ghost use Rattle.tariff.specs.Sheets.{values_of};
 ghost use Rattle.tariff.proofs.DraftFigures.{inverse};
 ghost use Rattle.riders.specs.Percent.{percent_draft, percent_figures, percent_from_figures, percent_own};
 
-use tariff::{Draft, Figure, Figures, Own, Sealed};
+use tariff::{Draft, Figure, Figures, OwnFigures, Sealed};
 
 /// The figures of a percent rider that is still being filled in, any numbers; both are the
 /// customer's own.
@@ -43,7 +43,7 @@ impl Draft for PercentDraft {
         }
     }
 
-    fn own() -> Own {
-        Own { first: 0, count: 2 }
+    fn own() -> OwnFigures {
+        OwnFigures { first: 0, count: 2 }
     }
 }
