@@ -121,8 +121,8 @@ module _ (s t : Store) (k at : ℕ) (there : k < s.started) (below : at < hours_
     days = ap (λ rs. (get_or rs (RATCHET + j) first_record).days) records;
     state = ap (λ rs. (get_or rs (RATCHET + j) first_record).state) records;
     readings = rw kept refl;
-    hours = rw written (stretch_set_other MONTH_HOURS j k (hours_of (record_at s j).days) (filed_hours_in s) at
-        (hour_of hour) other (omega (arith, (record_at s j).length.1))
+    hours = rw written (stretch_set_other MONTH_HOURS j k (hours_of (record_at s j).days) (filed_hours_in s)
+        at (hour_of hour) other (omega (arith, (record_at s j).length.1))
         (omega (arith, (record_at s k).length.1)));
   }
 
@@ -258,7 +258,8 @@ pub months_started : (s t : Store) (days : ℕ) (month : MonthRecord) → s.star
     → t.records ≡ set s.records (RATCHET + s.started) month → month.days ≡ days → month.state ≡ Open
     → readings_in t ≡ sets (readings_in s) (MONTH_QUARTERS * s.started + 0)
     (replicate (quarters_of days) None)
-    → filed_hours_in t ≡ sets (filed_hours_in s) (MONTH_HOURS * s.started + 0) (replicate (hours_of days) new_hour)
+    → filed_hours_in t
+    ≡ sets (filed_hours_in s) (MONTH_HOURS * s.started + 0) (replicate (hours_of days) new_hour)
     → months_of t ≡ months_of s ++ (new_month days ∷ [])
 unfolding new_month month_of
 months_started s t days month few short quarters hours started records of_days opened written cleared =
@@ -271,7 +272,8 @@ months_started s t days month few short quarters hours started records of_days o
     (ap (λ m. m.days) own ∙ of_days) (ap (λ m. m.state) own ∙ opened)
     (rw written (stretch_cleared MONTH_QUARTERS k (quarters_of days) (readings_in s) None
     (rw length-map quarters)))
-    (rw cleared (stretch_cleared MONTH_HOURS k (hours_of days) (filed_hours_in s) new_hour (rw length-map hours))))
+    (rw cleared
+    (stretch_cleared MONTH_HOURS k (hours_of days) (filed_hours_in s) new_hour (rw length-map hours))))
     (λ j there.
     let other : j ≢ k = omega arith in
     let same = record_other s t k month few records j other in
@@ -280,7 +282,8 @@ months_started s t days month few short quarters hours started records of_days o
       state = ap (λ m. m.state) same;
       readings = other_readings s k 0 (replicate (quarters_of days) None)
           (omega (arith, many)) t.memory.quarters.now written j there other;
-      hours = rw cleared (stretch_sets_other MONTH_HOURS j k (hours_of (record_at s j).days) (filed_hours_in s) 0
+      hours = rw cleared (stretch_sets_other MONTH_HOURS j k (hours_of (record_at s j).days)
+          (filed_hours_in s) 0
           (replicate (hours_of days) new_hour) other (omega (arith, (record_at s j).length.1))
           (omega (arith, many')));
     })
