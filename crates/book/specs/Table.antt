@@ -5,9 +5,8 @@ use Rattle.std.specs.Str.{bytes_eq}
 use Rattle.ledger.specs.Entries.{differences, entries_for}
 use Rattle.ledger.specs.declared.entry.Entry.{Entry}
 use Rattle.ledger.specs.declared.entry.EntryKind.TheVariants.{Bill, TrueUp}
-use Rattle.store.specs.Months.{can_carry, first_short, missing}
+use Rattle.store.specs.Months.{can_carry, days_within, first_short, missing}
 use Rattle.store.specs.Posts.{day_fault, post_places, post_within}
-use Rattle.store.specs.declared.month.TheConstants.{LEAST_DAYS, MOST_DAYS}
 use Rattle.store.specs.declared.month.State.{State}
 use Rattle.store.specs.declared.month.State.TheVariants.{Billed, Final}
 use Rattle.tariff.specs.Limits.{most_demand, line_count}
@@ -54,9 +53,6 @@ is_code_of code None = false
 abbrev pub opening_within : ℕ → ℕ → List ℕ → Bool
 opening_within contract substation carried =
     nat_le 1 contract && (nat_le contract substation && (nat_le substation most_demand && can_carry carried))
-
-abbrev pub days_within : ℕ → Bool
-days_within days = nat_le LEAST_DAYS days && nat_le days MOST_DAYS
 
 abbrev pub free_entries : View → ℕ
 free_entries v = v.room - length v.ledger

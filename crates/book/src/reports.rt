@@ -54,7 +54,8 @@ impl Book<'_> {
 
     /// What the entries of a billed month for a line, from 1, add up to in cents.
     pub fn total(&self, month: u32, line: u32) -> Result<i64, Refusal>
-        ensures { (meaning : Meaning) → Answers meaning (asks (line_total month line)) self.now result }
+        ensures { (meaning : Meaning)
+            → Answers meaning (asks (line_total month line)) self.now result }
     {
         let named = self.named_month(month)?;
         if line < 1 || LINES < line as usize {

@@ -1,7 +1,7 @@
 // Entries in print, in lent bytes.
 use crate::support::{CODE, LINES_BILLED, Memory, UNWRITTEN, start_full};
 use book::Book;
-use ledger::{Entry, EntryKind, LineSum, MOST_BYTES};
+use ledger::{Entry, EntryKind, LineColumns, MOST_BYTES};
 use rates::dts::DTS_2007;
 use std::test::Fail;
 use store::{Post, Reading};
@@ -62,18 +62,18 @@ fn a_line_has_three_columns(rt: HostRuntime) {
     };
     assert_eq!(rt; book.post(1, 0, Post::Reading(late)), Ok(()));
     assert_eq!(rt; trued_up(&mut book), Ok(5));
-    let apparent = LineSum {
+    let apparent = LineColumns {
         billed: 90_000,
         trued_up: -90_000,
         total: 0,
     };
-    assert_eq!(rt; book.ledger().line_sum(1, 8), apparent);
-    let capacity = LineSum {
+    assert_eq!(rt; book.ledger().columns(1, 8), apparent);
+    let capacity = LineColumns {
         billed: 1_015_729,
         trued_up: -176,
         total: 1_015_553,
     };
-    assert_eq!(rt; book.ledger().line_sum(1, 2), capacity);
+    assert_eq!(rt; book.ledger().columns(1, 2), capacity);
 }
 
 #[test]

@@ -33,7 +33,7 @@ line_at entry entries = entry_line (slice_index_or entries entry UNWRITTEN)
 abbrev pub at_front : List ℕ → List ℕ → List ℕ
 at_front text bytes = text ++ drop (length text) bytes
 
--- a text laid at the front of bytes that end after it at a place
+-- the bytes after a text was put at their front, and where it ends
 pub record IsLaid (text before : List ℕ) (at : ℕ) (bytes : List ℕ) : Type 0 where
   pub ends : at ≡ length text
   pub within : at ≤ length before

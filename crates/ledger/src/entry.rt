@@ -14,9 +14,9 @@ pub const MOST_BYTES: usize = 24;
 /// Whether an entry came from a bill or from a true-up; printed `B` and `T`.
 #[derive(Clone, Copy, PartialEq, Eq, Debug)]
 pub enum EntryKind {
-    /// The first pricing of a month: an entry for each line, also of 0 cents.
+    /// The first pricing of a month, `B`: an entry for each line, also of 0 cents.
     Bill,
-    /// A pricing after that: an entry only for a line whose sum it changes.
+    /// A pricing after that, `T`: an entry only for a line whose sum it changes.
     TrueUp,
 }
 
@@ -25,10 +25,11 @@ pub enum EntryKind {
 pub struct Entry {
     /// The month by its number in its book, from 1.
     pub month: u8,
+    /// Whether a bill or a true-up wrote it.
     pub kind: EntryKind,
     /// The line by its number on the bill, from 1.
     pub line: u8,
-    /// In cents; below 0 where the line's sum falls.
+    /// What is added to the line's sum, in cents; below 0 where the sum falls.
     pub cents: i64,
 }
 

@@ -4,8 +4,8 @@ ghost use Rattle.ledger.specs.Entries.{SumsWithin};
 
 use crate::entries::Entries;
 use crate::entry::{Entry, EntryKind};
-use std::{error, fmt};
 use tariff::Amounts;
+use thiserror::Error;
 
 /// A ledger over lent memory. What the memory holds past the entries written so far is never read.
 #[derive(Drop)]
@@ -17,19 +17,12 @@ pub struct Ledger<'a> {
 }
 
 /// Fewer free entries than are to be written.
-#[derive(Clone, Copy, PartialEq, Eq, Debug)]
+#[derive(Clone, Copy, PartialEq, Eq, Debug, Error)]
+#[error("the ledger has room for {free} entries more")]
 pub struct NoRoom {
     /// How many there are.
     pub free: usize,
 }
-
-impl fmt::Display for NoRoom {
-    fn fmt<W: fmt::Write>(&self, f: &mut fmt::Formatter<W>) -> fmt::Result {
-        write!(f, "the ledger has room for {} entries more", self.free)
-    }
-}
-
-impl error::Error for NoRoom {}
 
 impl<'a> Ledger<'a> {
     ghost use Rattle.ledger.specs.Ledgers.{entries_of, free_of, memory_of, room_of, write_answer};

@@ -7,6 +7,6 @@ mod entries;
 mod entry;
 mod ledger;
 
-pub use entries::{Entries, LineSum, NoText};
+pub use entries::{Entries, LineColumns, NoText};
 pub use entry::{Entry, EntryKind, MOST_BYTES};
 pub use ledger::{Ledger, NoRoom};

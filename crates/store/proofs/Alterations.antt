@@ -1,5 +1,5 @@
 -- The months of a store after a post to one of them.
-use Rattle.std.proofs.Common.{◌≡◌, ℕ, ◌+◌, ◌*◌, ◌<◌, ◌≤◌, ◌≢◌, List, [], ◌∷◌, ◌++◌, map, length, get_or, set, replicate, Some, None, Option, sym, refl, ap, ◌∙◌, inl, inr, arith}
+use Rattle.std.proofs.Common.{◌≡◌, ℕ, ◌+◌, ◌*◌, ◌<◌, ◌≤◌, ◌≢◌, List, [], ◌∷◌, ◌++◌, map, length, get_or, set, replicate, Some, None, Option, sym, refl, ap, ap₂, ◌∙◌, inl, inr, arith}
 use lib.LanesLaws.{map-replicate}
 use lib.Seq.{sets}
 use mathlib.Core.List.{map-map}
@@ -11,7 +11,7 @@ use Rattle.store.specs.declared.memory.TheConstants.{MONTH_HOURS, MONTH_QUARTERS
 use Rattle.store.specs.declared.store.TheConstants.{MOST_MONTHS}
 use Rattle.store.specs.declared.carried.TheConstants.{RATCHET}
 use Rattle.store.specs.Records.{first_record, hour_of, peak_in, reading_of, record_in, stretch}
-use Rattle.store.specs.Stores.{Alters, earlier_peaks_of, capacity_of, month_of, months_of}
+use Rattle.store.specs.Stores.{Alters, capacity, earlier_peaks_of, capacity_of, month_of, months_of}
 use Rattle.store.specs.declared.month.MonthRecord.{MonthRecord}
 use Rattle.store.specs.declared.memory.Hour.{Hour}
 use Rattle.store.specs.declared.memory.Quarter.{Quarter}
@@ -28,14 +28,14 @@ record_at s k = record_in s.records k
 abbrev pub readings_in : Store → List (Option Reading)
 readings_in s = map reading_of s.memory.quarters.now
 
-abbrev pub hours_in : Store → List HourOnFile
-hours_in s = map hour_of s.memory.hours.now
+abbrev pub filed_hours_in : Store → List HourOnFile
+filed_hours_in s = map hour_of s.memory.hours.now
 
 abbrev pub readings_at : Store → ℕ → ℕ → List (Option Reading)
 readings_at s k days = stretch MONTH_QUARTERS k (quarters_of days) (readings_in s)
 
 abbrev pub hours_at : Store → ℕ → ℕ → List HourOnFile
-hours_at s k days = stretch MONTH_HOURS k (hours_of days) (hours_in s)
+hours_at s k days = stretch MONTH_HOURS k (hours_of days) (filed_hours_in s)
 
 -- a month by its parts, the rest as in any month that a store has at that place
 pub month_parts : (s base : Store) (k : ℕ) (days : ℕ) (state : State) (readings : List (Option Reading))
@@ -92,11 +92,11 @@ module _ (s t : Store) (k at : ℕ) (there : k < s.started) (below : at < hours_
       (get_or s.memory.hours.now (MONTH_HOURS * k + at) d)
   old_hour =
       ap (λ m. get_or m.hours at new_hour) (month_read s k)
-      ∙ get_or_stretch MONTH_HOURS k (hours_of (record_at s k).days) (hours_in s) at new_hour below
+      ∙ get_or_stretch MONTH_HOURS k (hours_of (record_at s k).days) (filed_hours_in s) at new_hour below
       ∙ get_or-map hour_of s.memory.hours.now (MONTH_HOURS * k + at) d new_hour
-      (omega (arith, (record_at s k).length.1, s.houred))
+      (omega (arith, (record_at s k).length.1, s.hours_fit))
 
-  written : hours_in t ≡ set (hours_in s) (MONTH_HOURS * k + at) (hour_of hour)
+  written : filed_hours_in t ≡ set (filed_hours_in s) (MONTH_HOURS * k + at) (hour_of hour)
   written = ap (map hour_of) hours ∙ map-set hour_of s.memory.hours.now (MONTH_HOURS * k + at) hour
 
   kept : readings_in t ≡ readings_in s
@@ -107,7 +107,7 @@ module _ (s t : Store) (k at : ℕ) (there : k < s.started) (below : at < hours_
       let old = old_hour in
       let read = ap (λ m. m.hours) (month_read s k) in
       let same = month_read s k in
-      let own = stretch_set MONTH_HOURS k (hours_of (record_at s k).days) (hours_in s) at
+      let own = stretch_set MONTH_HOURS k (hours_of (record_at s k).days) (filed_hours_in s) at
       (hour_of hour) below in
       month_parts t s k (record_at s k).days (record_at s k).state (readings_at s k (record_at s k).days)
       (set (hours_at s k (record_at s k).days) at (hour_of hour))
@@ -121,8 +121,8 @@ module _ (s t : Store) (k at : ℕ) (there : k < s.started) (below : at < hours_
     days = ap (λ rs. (get_or rs (RATCHET + j) first_record).days) records;
     state = ap (λ rs. (get_or rs (RATCHET + j) first_record).state) records;
     readings = rw kept refl;
-    hours = rw written (stretch_set_other MONTH_HOURS j k (hours_of (record_at s j).days) (hours_in s) at
-        (hour_of hour) other (omega (arith, (record_at s j).length.1))
+    hours = rw written (stretch_set_other MONTH_HOURS j k (hours_of (record_at s j).days) (filed_hours_in s)
+        at (hour_of hour) other (omega (arith, (record_at s j).length.1))
         (omega (arith, (record_at s k).length.1)));
   }
 
@@ -131,7 +131,7 @@ module _ (s t : Store) (k at : ℕ) (there : k < s.started) (below : at < hours_
   alters_hour = record {
     months = months_altered s t k (with_hour at change) started there own_hour other_month;
     before = rw records refl;
-    capacity = rw (quarters, hours, length-set) refl;
+    capacity = ap₂ capacity (ap length quarters) (ap length hours ∙ length-set _ _ _);
   }
 
 -- the record of one month written
@@ -220,7 +220,7 @@ module _ (s : Store) (k at : ℕ) (posted : List (Option Reading))
       let same = month_read s k in
       let read = ap (λ m. m.readings) same in
       let own = record_own s t k month (omega arith) records in
-      let kept : hours_in t ≡ hours_in s = ap (map hour_of) hours in
+      let kept : filed_hours_in t ≡ filed_hours_in s = ap (map hour_of) hours in
       let lent : readings_in t ≡ map reading_of quarters = ap (map reading_of) memory in
       let new = stretch_sets MONTH_QUARTERS k (quarters_of (record_at s k).days)
       (readings_in s) at posted below in
@@ -258,7 +258,8 @@ pub months_started : (s t : Store) (days : ℕ) (month : MonthRecord) → s.star
     → t.records ≡ set s.records (RATCHET + s.started) month → month.days ≡ days → month.state ≡ Open
     → readings_in t ≡ sets (readings_in s) (MONTH_QUARTERS * s.started + 0)
     (replicate (quarters_of days) None)
-    → hours_in t ≡ sets (hours_in s) (MONTH_HOURS * s.started + 0) (replicate (hours_of days) new_hour)
+    → filed_hours_in t
+    ≡ sets (filed_hours_in s) (MONTH_HOURS * s.started + 0) (replicate (hours_of days) new_hour)
     → months_of t ≡ months_of s ++ (new_month days ∷ [])
 unfolding new_month month_of
 months_started s t days month few short quarters hours started records of_days opened written cleared =
@@ -271,7 +272,8 @@ months_started s t days month few short quarters hours started records of_days o
     (ap (λ m. m.days) own ∙ of_days) (ap (λ m. m.state) own ∙ opened)
     (rw written (stretch_cleared MONTH_QUARTERS k (quarters_of days) (readings_in s) None
     (rw length-map quarters)))
-    (rw cleared (stretch_cleared MONTH_HOURS k (hours_of days) (hours_in s) new_hour (rw length-map hours))))
+    (rw cleared
+    (stretch_cleared MONTH_HOURS k (hours_of days) (filed_hours_in s) new_hour (rw length-map hours))))
     (λ j there.
     let other : j ≢ k = omega arith in
     let same = record_other s t k month few records j other in
@@ -280,7 +282,8 @@ months_started s t days month few short quarters hours started records of_days o
       state = ap (λ m. m.state) same;
       readings = other_readings s k 0 (replicate (quarters_of days) None)
           (omega (arith, many)) t.memory.quarters.now written j there other;
-      hours = rw cleared (stretch_sets_other MONTH_HOURS j k (hours_of (record_at s j).days) (hours_in s) 0
+      hours = rw cleared (stretch_sets_other MONTH_HOURS j k (hours_of (record_at s j).days)
+          (filed_hours_in s) 0
           (replicate (hours_of days) new_hour) other (omega (arith, (record_at s j).length.1))
           (omega (arith, many')));
     })

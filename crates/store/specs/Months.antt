@@ -1,11 +1,12 @@
 -- A month on file: what was posted for it, the state that it is in, and what follows from it.
-use Rattle.std.specs.Prelude.{ℕ, ◌+◌, ◌-◌, ◌*◌, max, Bool, true, false, ◌&&◌, List, [], ◌∷◌, ◌++◌, map, length, take, drop, replicate, is_none, Some, None, Option, option_map, nat_le, slice_index, slice_index_or, slice_set}
+use Rattle.std.specs.Prelude.{ℕ, ◌+◌, ◌-◌, ◌*◌, max, Bool, true, false, ◌&&◌, List, [], ◌∷◌, ◌++◌, map, length, take, drop, replicate, is_none, Some, None, Option, option_map, nat_le, slice_index, slice_index_or, slice_set, unwrap_or}
 use Rattle.std.specs.Option.{option_or}
 use Rattle.std.specs.List.{position, prefix_len, range_with_len}
 use Rattle.tariff.specs.Limits.{most_demand}
 use Rattle.tariff.specs.declared.hours.HourRow.{HourRow}
 use Rattle.store.specs.declared.carried.TheConstants.{RATCHET}
 use Rattle.store.specs.declared.memory.TheConstants.{DAY_HOURS, DAY_QUARTERS}
+use Rattle.store.specs.declared.month.TheConstants.{LEAST_DAYS, MOST_DAYS}
 use Rattle.store.specs.declared.month.State.{State}
 use Rattle.store.specs.declared.month.State.TheVariants.{Open, Billed, Final}
 use Rattle.store.specs.declared.post.Reading.{Reading}
@@ -24,6 +25,10 @@ pub record Month : Type 0 where
   pub state : State
   pub readings : List (Option Reading)
   pub hours : List HourOnFile
+
+-- a month has 28 to 31 days
+abbrev pub days_within : ℕ → Bool
+days_within days = nat_le LEAST_DAYS days && nat_le days MOST_DAYS
 
 -- how many quarters and hours so many days have
 abbrev pub quarters_of : ℕ → ℕ
@@ -79,10 +84,6 @@ abbrev pub kva_of : Option Reading → ℕ
 kva_of (Some reading) = reading.kva
 kva_of None = 0
 
-abbrev pub price_of : Option ℕ → ℕ
-price_of (Some price) = price
-price_of None = 0
-
 -- the highest of a list, 0 where there is none
 unfoldable pub top : List ℕ → ℕ
 top [] = 0
@@ -102,7 +103,7 @@ hour_row readings hours h =
     let hour = slice_index_or hours h new_hour in
     record {
       energy = kw (4 * h) + kw (4 * h + 1) + kw (4 * h + 2) + kw (4 * h + 3);
-      price = price_of hour.price;
+      price = unwrap_or hour.price 0;
       scheduled = hour.scheduled;
     }
 

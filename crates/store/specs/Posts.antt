@@ -1,31 +1,17 @@
 -- What is posted to a month: the places that it has for it, the limits, what is answered, and the month with
 -- it on file. A further kind of post is one line in each table.
-use Rattle.std.specs.Prelude.{ℕ, ◌+◌, Bool, ◌&&◌, ◌||◌, not, ◌==◌, if◌then◌else◌, List, [], ◌∷◌, map, length, Some, None, Option, Ok, Err, Result, nat_le, nat_lt, slice_index_or, slice_set}
+use Rattle.std.specs.Prelude.{ℕ, Bool, ◌&&◌, not, ◌==◌, if◌then◌else◌, List, [], ◌∷◌, map, length, Some, None, Option, Ok, Err, Result, nat_le, nat_lt, slice_index_or, slice_set}
 use Rattle.std.specs.List.{prefix_len}
 use Rattle.std.proofs.lemmas.List.Edits.{sets}
 use Rattle.tariff.specs.Limits.{most_demand}
 use Rattle.tariff.specs.declared.limits.TheConstants.{MOST_PRICE}
-use Rattle.tariff.specs.declared.refusal.Refusal.{Refusal}
-use Rattle.tariff.specs.declared.refusal.Refusal.TheVariants.{NoMonthFree, DaysOutside}
 use Rattle.store.specs.Months.{HourOnFile, Month, hours_of, new_hour, quarters_of}
 use Rattle.store.specs.declared.memory.TheConstants.{DAY_QUARTERS}
-use Rattle.store.specs.declared.month.TheConstants.{LEAST_DAYS, MOST_DAYS}
 use Rattle.store.specs.declared.post.Post.{Post}
 use Rattle.store.specs.declared.post.Post.TheVariants.{Reading as OfReading, Price as OfPrice, Scheduled as OfScheduled}
 use Rattle.store.specs.declared.post.PostError.{PostError}
 use Rattle.store.specs.declared.post.PostError.TheVariants.{NoSuchPlace, OutsideLimit}
 use Rattle.store.specs.declared.post.Reading.{Reading}
-
--- ---- a month is started
-
--- the month's number, from 1, where the memory holds one more and months have so many days
-abbrev pub start_answer : ℕ → ℕ → ℕ → Result ℕ Refusal
-start_answer capacity started days =
-    if nat_le capacity started then Err NoMonthFree
-    else if nat_lt days LEAST_DAYS || nat_lt MOST_DAYS days then Err DaysOutside
-    else Ok (started + 1)
-
--- ---- a post to one quarter or hour
 
 abbrev pub reading_within : Reading → Bool
 reading_within reading = nat_le reading.kw reading.kva && nat_le reading.kva most_demand
@@ -59,8 +45,6 @@ post_answer month place post =
     if nat_le (post_places post month.days) place then Err NoSuchPlace
     else if not (post_within post) then Err (OutsideLimit 0)
     else Ok tt
-
--- ---- a day's readings
 
 -- the first reading outside its limits; 96, before that, where there are not 96
 abbrev pub day_fault : List Reading → Option ℕ

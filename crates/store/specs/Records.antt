@@ -14,15 +14,14 @@ use Rattle.store.specs.declared.post.Reading.{Reading}
 
 -- a quarter whose kVA is below its kW was never posted, nor was an hour whose price is above its limit
 abbrev pub reading_of : Quarter → Option Reading
-reading_of quarter = if nat_le quarter.kw quarter.kva then Some
-    (record { kw = quarter.kw; kva = quarter.kva }) else None
+reading_of quarter =
+    let reading : Reading = record { kw = quarter.kw; kva = quarter.kva } in
+    if nat_le quarter.kw quarter.kva then Some reading else None
 
 abbrev pub hour_of : Hour → HourOnFile
-hour_of hour = record {
-  price = if nat_le hour.price MOST_PRICE then Some hour.price else None;
-  scheduled =
-      hour.scheduled;
-}
+hour_of hour =
+    let price = if nat_le hour.price MOST_PRICE then Some hour.price else None in
+    record { price = price; scheduled = hour.scheduled }
 
 -- the stretch of memory that is the month at place k, where each month has the same room
 unfoldable pub stretch : {X : Type 0} → ℕ → ℕ → ℕ → List X → List X
@@ -35,14 +34,8 @@ peak_in quarters k days =
 
 -- a record as a store has them before any month is started
 abbrev pub first_record : MonthRecord
-first_record = record {
-  days = LEAST_DAYS;
-  state = Open;
-  peak = 0;
-  length = (lit≤ tt, lit≤ tt);
-  within =
-      lit≤ tt;
-}
+first_record =
+    record { days = LEAST_DAYS; state = Open; peak = 0; length = (lit≤ tt, lit≤ tt); within = lit≤ tt }
 
 -- the record of the month at place k, after those of the months before month 1
 abbrev pub record_in : List MonthRecord → ℕ → MonthRecord

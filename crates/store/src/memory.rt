@@ -89,7 +89,7 @@ impl Hour {
 
     /// An hour that has no price and nothing scheduled, to fill memory with before it is lent.
     pub const NEVER_POSTED: Hour = Hour {
-        price: 100_000,
+        price: MOST_PRICE + 1,
         scheduled: 0,
     };
 

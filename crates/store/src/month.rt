@@ -31,12 +31,24 @@ impl State {
     }
 }
 
-/// A month's days, 28 to 31, its state, and the highest kW of its readings, 1,000,000 at the most.
+/// What is kept of a month beside the lent memory.
 #[derive(Clone, Copy, PartialEq, Eq, Debug)]
 pub struct MonthRecord {
+    /// How many days it has, 28 to 31.
     pub days: u8,
+    /// How far it has come.
     pub state: State,
+    /// The highest kW of its readings, 1,000,000 at the most; 0 where there is none.
     pub peak: u32,
     ghost length: { (LEAST_DAYS ≤ days) × (days ≤ MOST_DAYS) },
     ghost within: { peak ≤ most_demand },
+}
+
+impl MonthRecord {
+    // The record that stands where no month is started.
+    pub(crate) const UNSTARTED: MonthRecord = MonthRecord {
+        days: LEAST_DAYS as u8,
+        state: State::Open,
+        peak: 0,
+    };
 }

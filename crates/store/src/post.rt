@@ -8,11 +8,14 @@ use crate::month::MOST_DAYS;
 use tariff::{MOST_DEMAND, MOST_PRICE};
 use thiserror::Error;
 
-/// What a meter reads in a quarter of an hour: kW and kVA.
+/// What a meter reads in a quarter of an hour; any numbers, for the limits are tested when it is
+/// posted.
 #[repr(C)]
 #[derive(Clone, Copy, PartialEq, Eq, Debug)]
 pub struct Reading {
+    /// The demand in kW.
     pub kw: u32,
+    /// The apparent demand in kVA.
     pub kva: u32,
 }
 

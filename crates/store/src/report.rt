@@ -21,7 +21,9 @@ const PAST_QUARTERS: u64 = 3_000;
 /// by its place from 0.
 #[derive(Clone, Copy, PartialEq, Eq, Debug)]
 pub enum Missing {
+    /// A reading, in the quarter of this place.
     Reading { quarter: u32 },
+    /// A price, where every reading is posted, in the hour of this place.
     Price { hour: u32 },
 }
 
@@ -90,7 +92,7 @@ fn energy(quarters: &[Quarter], h: usize) -> u32
 // Writes the row of each hour to its place.
 fn fill_rows(rows: &mut [HourRow], quarters: &[Quarter], hours: &[Hour])
     requires room { length hours.now ≤ length rows.old }
-    requires quartered { length quarters.now ≡ 4 * length hours.now }
+    requires quarters_fit { length quarters.now ≡ 4 * length hours.now }
     requires within { RowsWithin rows.old }
     ensures filled { take (length hours.now) rows.new
         ≡ map (hour_row (map reading_of quarters.now) (map hour_of hours.now))
@@ -110,15 +112,15 @@ impl Store<'_> {
     ghost use Rattle.store.specs.Facts.{facts_of_month};
     ghost use Rattle.store.specs.Months.{first_missing, first_short, hour_rows, quarters_of, hours_of};
     ghost use Rattle.store.specs.Rows.{rows_in};
-    ghost use Rattle.store.specs.Stores.{earlier_peaks_of, month_at, months_of};
+    ghost use Rattle.store.specs.Stores.{earlier_peaks_of, month_in, months_of};
 
     // What a memory, with room for each month and so many items a day, has of the month at place
     // `k`; none where it is not on file.
     fn on_file<'m, T>(&self, memory: &'m [T], room: usize, a_day: usize, k: usize) -> &'m [T]
         requires held { room * self.now.started ≤ length memory.now }
-        requires roomed { a_day * MOST_DAYS ≤ room }
-        ensures read { result.now ≡ stretch room k (a_day * (month_at self.now k).days) memory.now }
-        ensures counted { length result.now ≡ a_day * (month_at self.now k).days }
+        requires fits { a_day * MOST_DAYS ≤ room }
+        ensures read { result.now ≡ stretch room k (a_day * (month_in self.now k).days) memory.now }
+        ensures counted { length result.now ≡ a_day * (month_in self.now k).days }
         ensures few { length result.now ≤ a_day * MOST_DAYS }
     {
         match self.month(k) {
@@ -129,8 +131,8 @@ impl Store<'_> {
 
     // Its quarters.
     fn quarters(&self, k: usize) -> &[Quarter]
-        ensures read { map reading_of result.now ≡ (month_at self.now k).readings }
-        ensures counted { length result.now ≡ quarters_of (month_at self.now k).days }
+        ensures read { map reading_of result.now ≡ (month_in self.now k).readings }
+        ensures counted { length result.now ≡ quarters_of (month_in self.now k).days }
         ensures few { length result.now ≤ MONTH_QUARTERS }
     {
         self.on_file(self.memory.quarters, MONTH_QUARTERS, DAY_QUARTERS, k)
@@ -138,8 +140,8 @@ impl Store<'_> {
 
     // Its hours.
     fn hours_on_file(&self, k: usize) -> &[Hour]
-        ensures read { map hour_of result.now ≡ (month_at self.now k).hours }
-        ensures counted { length result.now ≡ hours_of (month_at self.now k).days }
+        ensures read { map hour_of result.now ≡ (month_in self.now k).hours }
+        ensures counted { length result.now ≡ hours_of (month_in self.now k).days }
         ensures few { length result.now ≤ MONTH_HOURS }
     {
         self.on_file(self.memory.hours, MONTH_HOURS, DAY_HOURS, k)
@@ -147,7 +149,7 @@ impl Store<'_> {
 
     // The first quarter of the month at place `k` that has no reading.
     fn unread(&self, k: usize) -> Option<usize>
-        ensures first { result ≡ position is_none (month_at self.now k).readings }
+        ensures first { result ≡ position is_none (month_in self.now k).readings }
         ensures within { IfSome result (λ quarter. quarter < MONTH_QUARTERS) }
     {
         self.quarters(k)
@@ -157,7 +159,7 @@ impl Store<'_> {
 
     // Its first hour that has no price.
     fn unpriced(&self, k: usize) -> Option<usize>
-        ensures first { result ≡ position (λ hour. is_none hour.price) (month_at self.now k).hours }
+        ensures first { result ≡ position (λ hour. is_none hour.price) (month_in self.now k).hours }
         ensures within { IfSome result (λ hour. hour < MONTH_HOURS) }
     {
         self.hours_on_file(k)
@@ -169,7 +171,7 @@ impl Store<'_> {
     /// billed, and past the last month.
     #[tactic(auto, unfolding(crate::specs::Months::first_missing))]
     pub fn missing(&self, k: usize) -> Option<Missing>
-        ensures { result ≡ first_missing (month_at self.now k) }
+        ensures { result ≡ first_missing (month_in self.now k) }
     {
         if let Some(quarter) = self.unread(k) {
             return Some(Missing::Reading {
@@ -216,7 +218,7 @@ impl Store<'_> {
 
     /// The hours of the month at place `k`; no hours where it is not on file.
     pub fn hours(&self, k: usize) -> MonthHours
-        ensures { rows_in result ≡ hour_rows (month_at self.now k) }
+        ensures { rows_in result ≡ hour_rows (month_in self.now k) }
     {
         let hours = self.hours_on_file(k);
         let mut rows = blank_rows();

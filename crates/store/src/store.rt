@@ -28,16 +28,16 @@ pub struct Store<'a> {
     pub(crate) started: usize,
     ghost recorded: { length records ≡ RECORDS },
     ghost few: { started ≤ MOST_MONTHS },
-    ghost quartered: { MONTH_QUARTERS * started ≤ length memory.quarters.now },
-    ghost houred: { MONTH_HOURS * started ≤ length memory.hours.now },
+    ghost quarters_fit: { MONTH_QUARTERS * started ≤ length memory.quarters.now },
+    ghost hours_fit: { MONTH_HOURS * started ≤ length memory.hours.now },
     ghost peaks: { KeepsPeaks records started memory.quarters.now },
 }
 
 impl<'a> Store<'a> {
     ghost use Rattle.store.specs.Months.{earlier_peaks, can_carry, new_month, peak, quarters_of, with_state};
-    ghost use Rattle.store.specs.Posts.{month_with_day, month_with_post, post_answer, post_day_answer, reading_within, start_answer, with_readings};
+    ghost use Rattle.store.specs.Posts.{month_with_day, month_with_post, post_answer, post_day_answer, reading_within, with_readings};
     ghost use Rattle.store.specs.Records.{record_in};
-    ghost use Rattle.store.specs.Stores.{Alters, earlier_peaks_of, capacity, capacity_of, month_at, months_of};
+    ghost use Rattle.store.specs.Stores.{Alters, capacity, capacity_of, earlier_peaks_of, hours_in, month_in, months_of, quarters_in, start_answer};
 
     /// A store without months in the memory that it is lent, whatever stands there. It holds as
     /// many months as both memories have room for, 48 at the most.
@@ -45,17 +45,12 @@ impl<'a> Store<'a> {
         ensures months { months_of result ≡ [] }
         ensures before { earlier_peaks_of result ≡ earlier_peaks [] }
         ensures capacity { capacity_of result ≡ capacity (length quarters.old) (length hours.old) }
-        ensures quarters { result.memory.quarters.now ≡ quarters.old }
-        ensures hours { result.memory.hours.now ≡ hours.old }
+        ensures quarters { quarters_in result ≡ quarters.old }
+        ensures hours { hours_in result ≡ hours.old }
     {
-        let none = MonthRecord {
-            days: LEAST_DAYS as u8,
-            state: State::Open,
-            peak: 0,
-        };
         Store {
             memory: Memory { quarters, hours },
-            records: [none; RECORDS],
+            records: [MonthRecord::UNSTARTED; RECORDS],
             started: 0,
         }
     }
@@ -64,9 +59,9 @@ impl<'a> Store<'a> {
     fn capacity(&self) -> usize
         ensures held { result ≡ capacity_of self.now }
         ensures few { self.now.started < result → self.now.started < MOST_MONTHS }
-        ensures quartered { self.now.started < result
+        ensures quarters_fit { self.now.started < result
             → MONTH_QUARTERS * (self.now.started + 1) ≤ length self.now.memory.quarters.now }
-        ensures houred { self.now.started < result
+        ensures hours_fit { self.now.started < result
             → MONTH_HOURS * (self.now.started + 1) ≤ length self.now.memory.hours.now }
     {
         let quarters = self.memory.quarters.len() / MONTH_QUARTERS;
@@ -91,7 +86,7 @@ impl<'a> Store<'a> {
 
     // The days of the month at place `k`, 0 past the last month, which has no quarter and no hour.
     fn days_of(&self, k: usize) -> usize
-        ensures read { result ≡ (month_at self.now k).days }
+        ensures read { result ≡ (month_in self.now k).days }
         ensures within { result ≤ MOST_DAYS }
         ensures there { 0 < result → k < self.now.started }
         ensures recorded { 0 < result → result ≡ (record_in self.now.records k).days }
@@ -102,9 +97,9 @@ impl<'a> Store<'a> {
     /// The record of the month at place `k`; `None` past the last month.
     pub fn record(&self, k: usize) -> Option<MonthRecord>
         ensures there { IsSome result ↔ (k < length (months_of self.now)) }
-        ensures days { IfSome result (λ month. month.days ≡ (month_at self.now k).days) }
-        ensures state { IfSome result (λ month. month.state ≡ (month_at self.now k).state) }
-        ensures peak { IfSome result (λ month. month.peak ≡ peak (month_at self.now k)) }
+        ensures days { IfSome result (λ month. month.days ≡ (month_in self.now k).days) }
+        ensures state { IfSome result (λ month. month.state ≡ (month_in self.now k).state) }
+        ensures peak { IfSome result (λ month. month.peak ≡ peak (month_in self.now k)) }
     {
         self.month(k)
     }
@@ -149,7 +144,6 @@ impl<'a> Store<'a> {
         if !carried::can_carry(carried) {
             return Err(CannotCarry);
         }
-        // the check does not lend a part of a store's field
         let mut records = self.records;
         carried::write(&mut records[..RATCHET], carried);
         self.records = records;
@@ -187,7 +181,7 @@ impl<'a> Store<'a> {
     /// Posts to a quarter or an hour of the month at place `k`, where the last post stands. A month
     /// past the last one has no place.
     pub fn post(&mut self, k: usize, place: usize, post: Post) -> Result<(), PostError>
-        ensures result { result ≡ post_answer (month_at self.old k) place post }
+        ensures result { result ≡ post_answer (month_in self.old k) place post }
         ensures posted { OnOk result (Alters k (month_with_post place post) self.old self.new) }
         ensures refused { OnErr result (self.new ≡ self.old) }
     {
@@ -208,7 +202,7 @@ impl<'a> Store<'a> {
     /// Posts the 96 readings of a day of the month at place `k`, where the last post stands; all or
     /// none of them. A month past the last one has no day.
     pub fn post_day(&mut self, k: usize, day: usize, readings: &[Reading]) -> Result<(), PostError>
-        ensures result { result ≡ post_day_answer (month_at self.old k) day readings.now }
+        ensures result { result ≡ post_day_answer (month_in self.old k) day readings.now }
         ensures posted { OnOk result
             (Alters k (month_with_day day readings.now) self.old self.new) }
         ensures refused { OnErr result (self.new ≡ self.old) }

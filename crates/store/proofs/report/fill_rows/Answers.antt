@@ -1,22 +1,18 @@
-use Rattle.std.proofs.Common.{◌≡◌, ℕ, ◌<◌, ◌≤◌, leb, List, [], map, length, get_or, take, Some, None, Option, unwrap_or, sym, refl, ap, ◌∙◌, arith}
+use Rattle.std.proofs.Common.{◌≡◌, ℕ, ◌<◌, ◌≤◌, leb, List, [], map, length, get_or, take, Some, None, Option, unwrap_or, sym, ap, ◌∙◌, arith}
 use Rattle.std.proofs.lemmas.List.FromFn.{fill_by_all}
 use Rattle.std.proofs.lemmas.List.{get_or-map, get_or-take, length-take-le}
 use Rattle.std.proofs.lemmas.Bool.{cond_both, leb-true}
 use Rattle.tariff.specs.Limits.{HourWithin, no_row}
 use Rattle.tariff.specs.declared.hours.HourRow.{HourRow}
-use Rattle.store.specs.Months.{hour_row, price_of}
+use Rattle.store.specs.Months.{hour_row}
 use Rattle.store.specs.Records.{hour_of, reading_of}
 use Rattle.store.specs.declared.memory.Hour.{Hour}
 use Rattle.store.specs.declared.memory.Quarter.{Quarter}
 use Rattle.store.proofs.report.fill_rows.Goals as goal
 
-price_or_0 : (price : Option ℕ) → unwrap_or price 0 ≡ price_of price
-price_or_0 (Some price) = refl
-price_or_0 None = refl
-
-price_limited : (hour : Hour) → price_of (hour_of hour).price ≤ 99999
+price_limited : (hour : Hour) → unwrap_or (hour_of hour).price 0 ≤ 99999
 price_limited hour =
-    let Limited : Option ℕ → Type 0 = λ price. price_of price ≤ 99999 in
+    let Limited : Option ℕ → Type 0 = λ price. unwrap_or price 0 ≤ 99999 in
     cond_both (leb hour.price 99999) (Some hour.price) None Limited
     (λ posted. leb-true hour.price 99999 posted) (λ _. omega arith)
 
@@ -29,13 +25,12 @@ module _ (quarters : List Quarter) (hours : List Hour) (h : ℕ) (hour : Hour) (
   row_is =
       let there : get_or (map hour_of hours) h record { price = None; scheduled = 0 } ≡ hour_of hour =
       get_or-map hour_of hours h hour _ here ∙ ap hour_of (sym is) in
-      let priced = price ∙ price_or_0 (hour_of hour).price in
-      rw (there, sym energy, sym priced, sym scheduled)
+      rw (there, sym energy, sym price, sym scheduled)
 
   row_within : row.energy ≤ 4000000 → HourWithin row
   row_within limited = (
     limited,
-    rw (price ∙ price_or_0 (hour_of hour).price) (price_limited hour),
+    rw price (price_limited hour),
     rw scheduled hour.within,
   )
 

@@ -1,16 +1,14 @@
-use Rattle.std.proofs.Common.{rules, ◌≡◌, ℕ, ◌+◌, false, not, ◌||◌, ltb, leb, [], ◌∷◌, ◌++◌, length, is_some, Some, Ok, Err, Result, OnOk, OnErr, refl, ap, ◌∙◌, inl, inr, arith}
+use Rattle.std.proofs.Common.{rules, ◌≡◌, ℕ, ◌+◌, false, not, leb, [], ◌∷◌, ◌++◌, length, is_some, Some, Ok, Err, Result, OnOk, OnErr, refl, ap, ◌∙◌, inl, inr}
 use Rattle.std.proofs.lemmas.Bool.{cases_Bool, cond-false, cond-true}
-use Rattle.std.proofs.lemmas.Bool.Decides.{nat_tests}
-use Rattle.store.specs.Months.{new_month}
-use Rattle.store.specs.Posts.{start_answer}
+use Rattle.store.specs.Months.{days_within, new_month}
 use Rattle.store.specs.declared.store.Store.{Store}
-use Rattle.store.specs.Stores.{months_of}
+use Rattle.store.specs.Stores.{months_of, start_answer}
 use Rattle.tariff.specs.Pricing.{Meaning}
 use Rattle.tariff.specs.declared.refusal.Refusal.{Refusal}
 use Rattle.tariff.specs.declared.refusal.Refusal.TheVariants.{NoMonthFree, DaysOutside}
 use Rattle.book.specs.Books.{Performs, IsUnaltered, point_of, view}
 use Rattle.book.specs.Calls.{starts}
-use Rattle.book.specs.Table.{blank_book, days_within, row}
+use Rattle.book.specs.Table.{blank_book, row}
 use Rattle.book.specs.declared.book.Book.{Book}
 use Rattle.book.specs.declared.point.Point.{Point}
 use Rattle.book.proofs.Exits.{is_refused, is_taken, first_holds, none_holds, pass}
@@ -29,9 +27,6 @@ pub invariant_of-self : goal.invariant_of-self
 invariant_of-self c = record {
   unbilled = started_unbilled c.args.self.now c.args.days c.start.new.self c.start.result c.start.ensures.months c.start.ensures.refused;
 }
-
-days_alike : (days : ℕ) → not (days_within days) ≡ (ltb days 28 || ltb 31 days)
-days_alike days = grind (arith, nat_tests)
 
 -- an opened book with one month more, or as it was
 module _ (meaning : Meaning) (book book' : Book) (days : ℕ) (point : Point) (opened : book.point ≡ Some point)
@@ -53,14 +48,14 @@ module _ (meaning : Meaning) (book book' : Book) (days : ℕ) (point : Point) (o
             rw err (is_refused meaning (starts days) book book' NoMonthFree (pass (blank_book 0 v) (row (leb v.capacity (length v.months)) NoMonthFree ∷ rest ∷ []) _ not_blank (cond-true _ _ _ none)) (kept (rw err at refused)))
         | inr some ↦
             let rows = blank_book 0 v ∷ row (leb v.capacity (length v.months)) NoMonthFree ∷ [] in
-            elim (cases_Bool (ltb days 28 || ltb 31 days)) [
+            elim (cases_Bool (not (days_within days))) [
               | inl outside ↦
                   let err : r ≡ Err DaysOutside = is ∙ cond-false _ _ _ some ∙ cond-true _ _ _ outside in
-                  rw err (is_refused meaning (starts days) book book' DaysOutside (first_holds rows rest [] (not_blank, (some, tt)) (days_alike days ∙ outside)) (kept (rw err at refused)))
+                  rw err (is_refused meaning (starts days) book book' DaysOutside (first_holds rows rest [] (not_blank, (some, tt)) outside) (kept (rw err at refused)))
               | inr within ↦
                   let ok : r ≡ Ok (length v.months + 1) = is ∙ cond-false _ _ _ some ∙ cond-false _ _ _ within in
                   rw ok
-                  (is_taken meaning (starts days) book book' (length v.months + 1) (none_holds (blank_book 0 v ∷ row (leb v.capacity (length v.months)) NoMonthFree ∷ rest ∷ []) (not_blank, (some, (days_alike days ∙ within, tt)))) refl
+                  (is_taken meaning (starts days) book book' (length v.months + 1) (none_holds (blank_book 0 v ∷ row (leb v.capacity (length v.months)) NoMonthFree ∷ rest ∷ []) (not_blank, (some, (within, tt)))) refl
                   (seen ∙ ap (λ all. record v { months = all }) (rw ok at months)))
             ]
       ]

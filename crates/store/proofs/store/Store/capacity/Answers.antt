@@ -4,4 +4,9 @@ use Rattle.store.proofs.store.Store.capacity.Goals as goal
 
 pub returns : goal.returns
 unfolding capacity_of capacity
-returns c = record { held = search rules; few = omega arith; quartered = omega arith; houred = omega arith }
+returns c = record {
+  held = search rules;
+  few = omega arith;
+  quarters_fit = omega arith;
+  hours_fit = omega arith;
+}

@@ -34,8 +34,8 @@ invariant_of-self c =
       recorded = length-append before (drop 24 store.records)
           ∙ omega (arith, many, length-drop 24 store.records);
       few = store.few;
-      quartered = store.quartered;
-      houred = store.houred;
+      quarters_fit = store.quarters_fit;
+      hours_fit = store.hours_fit;
       peaks = λ k here. rw (kept before store.records k many) (store.peaks k here);
     }
 

@@ -1,6 +1,6 @@
 use Rattle.std.proofs.Common.{ap, refl, arith, ◌∙◌}
 use Rattle.store.specs.Facts.{facts_of_month}
-use Rattle.store.specs.Stores.{month_at}
+use Rattle.store.specs.Stores.{month_in}
 use Rattle.store.proofs.Peaks.{peak_kva_read, peak_under_kva}
 use Rattle.store.proofs.Stretches.{length_months}
 use Rattle.store.proofs.Views.{earlier_recorded, peak_recorded}
@@ -10,7 +10,7 @@ pub invariant_of-result-clause-demand : goal.invariant_of-result-clause-demand
 invariant_of-result-clause-demand c =
     let store = c.args.self.now in
     let k = c.args.k in
-    let month = month_at store k in
+    let month = month_in store k in
     let read = c.quarters.ensures.read in
     let kw = ap (λ m. m.peak) c.in_ok-month.ensures.1 ∙ peak_recorded store k c.in_ok-month.ensures.0 in
     let kva = c.highest_of.ensures.counted ∙ peak_kva_read month _ read in
@@ -23,7 +23,7 @@ returns c =
     let k = c.args.k in
     let here = c.in_ok-month.ensures.0 in
     let kw = ap (λ m. m.peak) c.in_ok-month.ensures.1 ∙ peak_recorded store k here in
-    let kva = c.highest_of.ensures.counted ∙ peak_kva_read (month_at store k) _ c.quarters.ensures.read in
+    let kva = c.highest_of.ensures.counted ∙ peak_kva_read (month_in store k) _ c.quarters.ensures.read in
     let ratchet = c.highest_of-2.ensures.counted ∙ earlier_recorded store k here in
     record {
       there = (λ _. omega (arith, length_months store, here), λ _. refl);

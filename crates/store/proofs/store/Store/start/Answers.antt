@@ -5,7 +5,7 @@ use Rattle.std.proofs.lemmas.Bool.Decides.{nat_tests}
 use Rattle.store.specs.Months.{new_hour}
 use Rattle.store.specs.Stores.{capacity_of}
 use Rattle.store.specs.declared.post.Reading.{Reading}
-use Rattle.store.proofs.Alterations.{before_kept, hours_in, months_started, peak_cleared, peaks_kept, readings_in}
+use Rattle.store.proofs.Alterations.{before_kept, filed_hours_in, months_started, peak_cleared, peaks_kept, readings_in}
 use Rattle.store.proofs.Stretches.{length_months}
 use Rattle.store.proofs.store.Store.start.Goals as goal
 
@@ -27,7 +27,7 @@ returns-clause-months c =
     let written = c.clear.ensures.quarters
     ∙ ap (λ a. sets (readings_in store) a (replicate (96 * days) None)) (sym (add-zero (2976 * k))) in
     let cleared = c.clear.ensures.hours
-    ∙ ap (λ a. sets (hours_in store) a (replicate (24 * days) new_hour)) (sym (add-zero (744 * k))) in
+    ∙ ap (λ a. sets (filed_hours_in store) a (replicate (24 * days) new_hour)) (sym (add-zero (744 * k))) in
     months_started store _ days _ few (omega arith) (omega arith)
     (omega arith) refl refl refl refl written cleared
 

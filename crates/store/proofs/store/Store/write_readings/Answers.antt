@@ -29,7 +29,7 @@ module _ (s : Store) (k from : ℕ) (there : k < s.started) (readings : List Rea
   within = omega (arith, many)
 
   room : MONTH_QUARTERS * k + quarters_of (record_at s k).days ≤ length s.memory.quarters.now
-  room = omega (arith, s.quartered, (record_at s k).length.1)
+  room = omega (arith, s.quarters_fit, (record_at s k).length.1)
 
   was : peak_in s.memory.quarters.now k (record_at s k).days ≡ kept
   was = sym (read ∙ s.peaks k there)
