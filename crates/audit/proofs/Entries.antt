@@ -5,7 +5,7 @@ use Rattle.book.specs.Calls.{Call, opens, starts, posts, posts_day, bills, trues
 use Rattle.book.specs.Steps.{view_after, step}
 use Rattle.book.specs.Views.{View}
 use Rattle.tariff.specs.Pricing.{Meaning}
-use Rattle.audit.specs.Runs.{is_accepted, view_after_run, call_entries, run_entries}
+use Rattle.audit.specs.Runs.{is_accepted, view_after_calls, call_entries, entries_of_calls}
 use Rattle.audit.proofs.Table.{by_step}
 
 module _ (meaning : Meaning) where
@@ -26,8 +26,8 @@ module _ (meaning : Meaning) where
       by_step meaning call v (λ w taken. w.ledger ≡ v.ledger ++ cond taken (call_entries meaning call v) []) (sym (append-nil v.ledger)) (λ e. after_ledger call v)
 
   pub run_ledger : (calls : List Call) (v : View)
-      → (view_after_run meaning calls v).ledger ≡ v.ledger ++ run_entries meaning calls v
+      → (view_after_calls meaning calls v).ledger ≡ v.ledger ++ entries_of_calls meaning calls v
   run_ledger [] v = sym (append-nil v.ledger)
   run_ledger (call ∷ calls) v =
       let w = step meaning call v in
-      run_ledger calls w ∙ ap (λ entries. entries ++ run_entries meaning calls w) (step_ledger call v) ∙ append_assoc v.ledger _ _
+      run_ledger calls w ∙ ap (λ entries. entries ++ entries_of_calls meaning calls w) (step_ledger call v) ∙ append_assoc v.ledger _ _

@@ -9,7 +9,7 @@ use Rattle.store.specs.declared.post.Post.TheVariants.{Reading as OfReading, Pri
 use Rattle.store.specs.declared.post.Reading.{Reading}
 use Rattle.book.specs.Views.{View, month_has_reached, month_index}
 use Rattle.std.proofs.lemmas.List.Sums.{prefix_len_passes}
-use Rattle.store.specs.Months.{Month, months_with, first_short, new_month, no_month, quarters_of, has_reached}
+use Rattle.store.specs.Months.{Month, months_with, first_short_month, new_month, no_month, quarters_of, has_reached}
 use Rattle.store.specs.declared.month.State.{State}
 use Rattle.store.specs.declared.month.State.TheVariants.{Open, Billed, Final}
 
@@ -118,7 +118,7 @@ day_fills day readings = record {
 
 -- where no earlier month is short of a state, each has reached it
 pub none_short : (state : State) (v : View) (m n : ℕ)
-    → month_index m ≤ first_short state v.months (month_index m) → 1 ≤ n → n < m
+    → month_index m ≤ first_short_month state v.months (month_index m) → 1 ≤ n → n < m
     → month_has_reached state n v ≡ true
 none_short state v m n all low before =
     let passes = prefix_len_passes (λ month. has_reached state month.state) (take (month_index m) v.months) (month_index n) no_month (omega arith) in

@@ -17,7 +17,7 @@ use Rattle.tariff.specs.Limits.{line_count}
 use Rattle.tariff.specs.Pricing.{Meaning, Outcome}
 use Rattle.audit.specs.Laws.{IsLatestPricing}
 use Rattle.std.specs.Option.{option_or}
-use Rattle.audit.specs.Runs.{is_accepted, view_at_pricing, view_after_run, is_pricing_of}
+use Rattle.audit.specs.Runs.{is_accepted, view_at_pricing, view_after_calls, is_pricing_of}
 use Rattle.audit.proofs.Months.{altered_at, altered_other, Fills, post_fills, day_fills, pushed_state}
 use Rattle.audit.proofs.Sound.{Sound, kept, written_elsewhere}
 use Rattle.audit.proofs.Table.{billing, by_step, finalising, Posting, posting, posting_day, truing}
@@ -157,11 +157,11 @@ upheld_more meaning m v u w None false later now =
     record { billed = λ h. now.billed (later.billed h); sums = λ l. later.sums l ∙ now.sums l }
 
 pub upheld : (meaning : Meaning) (calls : List Call) (m : ℕ) (v : View) → Sound meaning v → 1 ≤ m
-    → Upheld meaning v m (view_after_run meaning calls v) (view_at_pricing meaning calls v m)
+    → Upheld meaning v m (view_after_calls meaning calls v) (view_at_pricing meaning calls v m)
 upheld meaning [] m v sound low = unmoved meaning m v
 upheld meaning (call ∷ calls) m v sound low =
     let u = step meaning call v in
-    upheld_more meaning m v u (view_after_run meaning calls u) (view_at_pricing meaning calls u m) (is_pricing_of m call && is_accepted meaning call v)
+    upheld_more meaning m v u (view_after_calls meaning calls u) (view_at_pricing meaning calls u m) (is_pricing_of m call && is_accepted meaning call v)
     (upheld meaning calls m u (kept meaning call v sound).sound low)
     (priced_step meaning call m v sound low)
 
@@ -179,16 +179,16 @@ latest_from meaning calls m v w None is held short done =
 -- a month that was billed over the run was priced
 pub priced_once : (meaning : Meaning) (calls : List Call) (m : ℕ) (v : View) → Sound meaning v → 1 ≤ m
     → month_has_reached Billed m v ≡ false
-    → month_has_reached Billed m (view_after_run meaning calls v) ≡ true
+    → month_has_reached Billed m (view_after_calls meaning calls v) ≡ true
     → (cents : List ℤ) × IsLatestPricing meaning calls v m cents
 priced_once meaning calls m v sound low short done =
-    latest_from meaning calls m v (view_after_run meaning calls v) (view_at_pricing meaning calls v m) refl (upheld meaning calls m v sound low) short done
+    latest_from meaning calls m v (view_after_calls meaning calls v) (view_at_pricing meaning calls v m) refl (upheld meaning calls m v sound low) short done
 
 -- and its entries add up to that
 pub latest_sums : (meaning : Meaning) (calls : List Call) (m : ℕ) (v : View) → Sound meaning v → 1 ≤ m
     → (cents : List ℤ) → IsLatestPricing meaning calls v m cents → (i : ℕ) → i < line_count
-    → line_sum (view_after_run meaning calls v).ledger m (i + 1) ≡ get_or cents i (pos 0)
+    → line_sum (view_after_calls meaning calls v).ledger m (i + 1) ≡ get_or cents i (pos 0)
 latest_sums meaning calls m v sound low cents latest i here =
-    let stands : Stands meaning latest.stood m (view_after_run meaning calls v) = rw latest.latest at (upheld meaning calls m v sound low) in
+    let stands : Stands meaning latest.stood m (view_after_calls meaning calls v) = rw latest.latest at (upheld meaning calls m v sound low) in
     let same : stands.cents ≡ cents = cc (stands.amounts, latest.amounts) in
     stands.sums i here ∙ ap (λ cents. get_or cents i (pos 0)) same

@@ -14,7 +14,7 @@ use Rattle.tariff.specs.Pricing.{Meaning}
 use Rattle.tariff.specs.declared.facts.PlainFacts.{PlainFacts}
 use Rattle.tariff.specs.declared.hours.HourRow.{HourRow}
 use Rattle.audit.specs.Laws.{Agree, IsBilled, IsFinal, IsLatestPricing, Promise, Run, new_book, book_after}
-use Rattle.audit.specs.Runs.{view_after_run}
+use Rattle.audit.specs.Runs.{view_after_calls}
 use Rattle.audit.proofs.Answered.{due_answers, due_decides, due_refuses, not_due, total_answers}
 use Rattle.audit.proofs.Entries.{run_ledger}
 use Rattle.audit.proofs.Files.{agreed}
@@ -64,10 +64,10 @@ alike meaning other same v w m n one two billed billed' agree answers answers' i
     ∙ sym (current other w n two billed' answers' i here)
 
 final : (meaning : Meaning) (v : View) (m : ℕ) → Sound meaning v → IsFinal m v → (more : List Call)
-    → IsFinal m (view_after_run meaning more v) × (answer meaning (asks (whether_due m)) (view_after_run meaning more v) ≡ Ok false) × ((l : ℕ) → line_sum (view_after_run meaning more v).ledger m l ≡ line_sum v.ledger m l)
+    → IsFinal m (view_after_calls meaning more v) × (answer meaning (asks (whether_due m)) (view_after_calls meaning more v) ≡ Ok false) × ((l : ℕ) → line_sum (view_after_calls meaning more v).ledger m l ≡ line_sum v.ledger m l)
 final meaning v m sound is more =
     let low : 1 ≤ m = (month_there m v is.0).0 in
-    let w = view_after_run meaning more v in
+    let w = view_after_calls meaning more v in
     let kept = runs_kept meaning more v sound in
     let still = kept.final m low is.1 in
     let billed : month_has_reached Billed m w ≡ true = final_billed (month_at m w).state still.0 in

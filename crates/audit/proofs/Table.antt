@@ -1,14 +1,14 @@
 -- A step leaves the book as it is where a row of the table holds; else it makes of it what the call does, and no row holds.
-use Rattle.std.proofs.Common.{◌≡◌, ℕ, ◌≤◌, Bool, true, false, cond, not, leb, List, [], ◌∷◌, length, is_some, Some, None, Option, refl}
+use Rattle.std.proofs.Common.{◌≡◌, ℕ, ◌≤◌, Bool, true, false, cond, not, leb, List, [], ◌∷◌, length, is_some, is_none, Some, None, Option, refl}
 use Rattle.std.specs.List.{AllByRecursion}
 use Rattle.std.proofs.lemmas.Bool.{and_parts, leb-true, ltb-false, not-false}
 use Rattle.store.specs.declared.post.Post.{Post}
 use Rattle.store.specs.declared.post.Reading.{Reading}
 use Rattle.book.specs.Calls.{Call, opens, starts, posts, posts_day, bills, trues_up, finalises}
 use Rattle.book.specs.Steps.{view_after, step, view_unless}
-use Rattle.book.specs.Table.{Row, first_holding, is_blank, is_fault, refusal_of, rows}
+use Rattle.book.specs.Table.{Row, first_holding, is_fault, refusal_of, rows}
 use Rattle.book.specs.Views.{View, altered_line, month_has_reached, is_month, month_index, month_outcome}
-use Rattle.store.specs.Months.{first_short}
+use Rattle.store.specs.Months.{first_short_month}
 use Rattle.store.specs.declared.month.State.TheVariants.{Billed, Final}
 use Rattle.tariff.specs.Pricing.{Meaning}
 use Rattle.tariff.specs.declared.refusal.Refusal.{Refusal}
@@ -45,7 +45,7 @@ pub record Names (m : ℕ) (v : View) : Type 0 where
   pub low : 1 ≤ m
   pub high : m ≤ length v.months
 
-names : (m : ℕ) (v : View) → is_blank v ≡ false → not (is_month m v) ≡ false → Names m v
+names : (m : ℕ) (v : View) → is_none v.point ≡ false → not (is_month m v) ≡ false → Names m v
 names m v opened e =
     let there = month_there m v (not-false (is_month m v) e) in
     record { opened = not-false (is_some v.point) opened; low = there.0; high = there.1 }
@@ -108,7 +108,7 @@ module _ (meaning : Meaning) (v : View) where
     pub names : Names m v
     pub unsettled : month_has_reached Final m v ≡ false
     pub billed : month_has_reached Billed m v ≡ true
-    pub earlier : month_index m ≤ first_short Final v.months (month_index m)
+    pub earlier : month_index m ≤ first_short_month Final v.months (month_index m)
     pub prices : is_fault (month_outcome meaning v m) ≡ false
     pub current : is_some (altered_line meaning v m) ≡ false
 
@@ -119,7 +119,7 @@ module _ (meaning : Meaning) (v : View) where
         names = names m v h.0 h.1.0;
         unsettled = h.1.1.0;
         billed = not-false (month_has_reached Billed m v) h.1.1.1.0;
-        earlier = ltb-false (first_short Final v.months (month_index m)) (month_index m) h.1.1.1.1.0;
+        earlier = ltb-false (first_short_month Final v.months (month_index m)) (month_index m) h.1.1.1.1.0;
         prices = h.1.1.1.1.1.0;
         current = h.1.1.1.1.1.1.0;
       }

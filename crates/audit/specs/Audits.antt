@@ -3,12 +3,12 @@ use Rattle.std.specs.Prelude.{◌≡◌, ℕ, zero, suc, List, [], ◌∷◌, So
 use Rattle.book.specs.Calls.{Call}
 use Rattle.book.specs.Requests.{answer_of, call_of}
 use Rattle.book.specs.Steps.{answer, step}
-use Rattle.book.specs.Views.{View, blank}
+use Rattle.book.specs.Views.{View, blank_view}
 use Rattle.book.specs.declared.request.Answer.{Answer}
 use Rattle.book.specs.declared.request.Answer.TheVariants.{Begun}
 use Rattle.book.specs.declared.request.Request.{Request}
 use Rattle.tariff.specs.Pricing.{Meaning}
-use Rattle.audit.specs.Runs.{view_after_run}
+use Rattle.audit.specs.Runs.{view_after_calls}
 
 -- the next call, or none
 abbrev pub next_call : Option Request → Option Call
@@ -35,5 +35,5 @@ pub data Audits {A : Type 0} (chooses : Chooses A) (meaning : Meaning) : ℕ →
 pub record MakesRun {A : Type 0} (chooses : Chooses A) (meaning : Meaning) (turns : ℕ) (a : A)
     (months room : ℕ) (b : A) (w : View) : Type 0 where
   pub calls : List Call
-  pub chosen : Audits chooses meaning turns a Begun (blank months room) calls b w
-  pub holds : w ≡ view_after_run meaning calls (blank months room)
+  pub chosen : Audits chooses meaning turns a Begun (blank_view months room) calls b w
+  pub holds : w ≡ view_after_calls meaning calls (blank_view months room)

@@ -2,7 +2,7 @@
 use Rattle.std.specs.Prelude.{◌≡◌, ℕ, ◌+◌, ◌<◌, Bool, true, false, List, ℤ, pos, Some, Ok, Err, IsTrue, ◌↔◌, ◌≢◌, slice_index_or}
 use Rattle.book.specs.Calls.{Call, asks, whether_due, line_total}
 use Rattle.book.specs.Steps.{answer}
-use Rattle.book.specs.Views.{View, blank, contract_of, facts_of, month_has_reached, is_month, month_at, month_outcome, substation_of}
+use Rattle.book.specs.Views.{View, blank_view, contract_of, facts_of, month_has_reached, is_month, month_at, month_outcome, substation_of}
 use Rattle.ledger.specs.Entries.{line_sum}
 use Rattle.store.specs.declared.month.State.TheVariants.{Billed, Final}
 use Rattle.tariff.specs.Limits.{line_count}
@@ -11,7 +11,7 @@ use Rattle.tariff.specs.declared.facts.PlainFacts.{PlainFacts}
 use Rattle.tariff.specs.declared.hours.HourRow.{HourRow}
 use Rattle.tariff.specs.declared.refusal.Fault.{Fault}
 use Rattle.tariff.specs.declared.refusal.Refusal.TheVariants.{LinePastLimit}
-use Rattle.audit.specs.Runs.{view_at_pricing, view_after_run, run_entries}
+use Rattle.audit.specs.Runs.{view_at_pricing, view_after_calls, entries_of_calls}
 
 -- a month that was billed; a final one counts as billed
 abbrev pub IsBilled : ℕ → View → Type 0
@@ -21,8 +21,8 @@ abbrev pub IsFinal : ℕ → View → Type 0
 IsFinal m v = (is_month m v ≡ true) × (month_has_reached Final m v ≡ true)
 
 -- the amount of line i, from 0
-abbrev line : List ℤ → ℕ → ℤ
-line cents i = slice_index_or cents i (pos 0)
+abbrev amount_at : List ℤ → ℕ → ℤ
+amount_at cents i = slice_index_or cents i (pos 0)
 
 -- what the month was priced at by its latest accepted bill or true-up of a run from v on: the file as it
 -- stood then, and what the schedule made of it
@@ -48,23 +48,23 @@ pub record Run : Type 0 where
   pub calls : List Call
 
 abbrev pub new_book : Run → View
-new_book run = blank run.capacity run.room
+new_book run = blank_view run.capacity run.room
 
 abbrev pub book_after : Meaning → Run → View
-book_after meaning run = view_after_run meaning run.calls (new_book run)
+book_after meaning run = view_after_calls meaning run.calls (new_book run)
 
 pub record Promise (meaning : Meaning) : Type 0 where
   -- the ledger holds the entries that the accepted bills and true-ups so far prescribe, and no others
   pub ledger : (run : Run)
-      → (book_after meaning run).ledger ≡ run_entries meaning run.calls (new_book run)
+      → (book_after meaning run).ledger ≡ entries_of_calls meaning run.calls (new_book run)
   -- on each line of a billed month the entries add up to what the schedule made of the file as it stood
   -- at the latest pricing, and total answers that sum
   pub sums : (run : Run) (m : ℕ)
       → IsBilled m (book_after meaning run)
       → (cents : List ℤ) × IsLatestPricing meaning run.calls (new_book run) m cents
       × ((i : ℕ) → i < line_count
-      → (line_sum (book_after meaning run).ledger m (i + 1) ≡ line cents i)
-      × (answer meaning (asks (line_total m (i + 1))) (book_after meaning run) ≡ Ok (line cents i)))
+      → (line_sum (book_after meaning run).ledger m (i + 1) ≡ amount_at cents i)
+      × (answer meaning (asks (line_total m (i + 1))) (book_after meaning run) ≡ Ok (amount_at cents i)))
   -- of a billed month due says yes exactly when the file would now price differently on some line
   pub due : (run : Run) (m : ℕ)
       → IsBilled m (book_after meaning run)
@@ -72,7 +72,7 @@ pub record Promise (meaning : Meaning) : Type 0 where
       → IsLatestPricing meaning run.calls (new_book run) m then
       → month_outcome meaning (book_after meaning run) m ≡ Ok now
       → (yes : Bool) × (answer meaning (asks (whether_due m)) (book_after meaning run) ≡ Ok yes)
-      × (IsTrue yes ↔ ((i : ℕ) × (i < line_count) × (line now i ≢ line then i)))
+      × (IsTrue yes ↔ ((i : ℕ) × (i < line_count) × (amount_at now i ≢ amount_at then i)))
   -- and is refused exactly when the schedule now refuses
   pub refuses : (run : Run) (m : ℕ)
       → IsBilled m (book_after meaning run)
@@ -95,9 +95,9 @@ pub record Promise (meaning : Meaning) : Type 0 where
   pub final : (run : Run) (m : ℕ)
       → IsFinal m (book_after meaning run)
       → (more : List Call)
-      → IsFinal m (view_after_run meaning more (book_after meaning run))
-      × (answer meaning (asks (whether_due m)) (view_after_run meaning more (book_after meaning run))
+      → IsFinal m (view_after_calls meaning more (book_after meaning run))
+      × (answer meaning (asks (whether_due m)) (view_after_calls meaning more (book_after meaning run))
       ≡ Ok false)
       × ((l : ℕ)
-      → line_sum (view_after_run meaning more (book_after meaning run)).ledger m l
+      → line_sum (view_after_calls meaning more (book_after meaning run)).ledger m l
       ≡ line_sum (book_after meaning run).ledger m l)

@@ -1,4 +1,4 @@
--- A run: calls performed on a book one after another, all under one schedule.
+-- Calls performed on a book one after another, all under one schedule.
 use Rattle.std.specs.Prelude.{ℕ, Bool, false, not, ◌&&◌, List, [], ◌∷◌, ◌++◌, is_some, Some, None, Option, ◌==◌, if◌then◌else◌}
 use Rattle.std.specs.Option.{option_or}
 use Rattle.book.specs.Calls.{Call, bills, trues_up}
@@ -8,10 +8,10 @@ use Rattle.book.specs.Views.{View}
 use Rattle.ledger.specs.declared.entry.Entry.{Entry}
 use Rattle.tariff.specs.Pricing.{Meaning}
 
--- what a book holds after the calls of a run, each refused or taken as the table has it
-abbrev pub view_after_run : Meaning → List Call → View → View
-view_after_run meaning [] v = v
-view_after_run meaning (call ∷ calls) v = view_after_run meaning calls (step meaning call v)
+-- what a book holds after the calls, each refused or taken as the table has it
+abbrev pub view_after_calls : Meaning → List Call → View → View
+view_after_calls meaning [] v = v
+view_after_calls meaning (call ∷ calls) v = view_after_calls meaning calls (step meaning call v)
 
 abbrev pub is_accepted : Meaning → Call → View → Bool
 is_accepted meaning call v = not (is_some (refusal_of meaning call v))
@@ -22,12 +22,12 @@ call_entries meaning (bills m) v = bill_entries meaning v m
 call_entries meaning (trues_up m) v = true_up_entries meaning v m
 call_entries meaning _ v = []
 
--- all that the accepted calls of a run prescribe, in their order
-abbrev pub run_entries : Meaning → List Call → View → List Entry
-run_entries meaning [] v = []
-run_entries meaning (call ∷ calls) v =
+-- all that the accepted calls prescribe, in their order
+abbrev pub entries_of_calls : Meaning → List Call → View → List Entry
+entries_of_calls meaning [] v = []
+entries_of_calls meaning (call ∷ calls) v =
     (if is_accepted meaning call v then call_entries meaning call v else [])
-    ++ run_entries meaning calls (step meaning call v)
+    ++ entries_of_calls meaning calls (step meaning call v)
 
 -- whether a call is a bill or a true-up of the month
 abbrev pub is_pricing_of : ℕ → Call → Bool
@@ -35,7 +35,7 @@ is_pricing_of m (bills n) = n == m
 is_pricing_of m (trues_up n) = n == m
 is_pricing_of m _ = false
 
--- what the book held when the month was last priced by an accepted bill or true-up of the run
+-- what the book held when the month was last priced by an accepted bill or true-up of the calls
 abbrev pub view_at_pricing : Meaning → List Call → View → ℕ → Option View
 view_at_pricing meaning [] v m = None
 view_at_pricing meaning (call ∷ calls) v m =

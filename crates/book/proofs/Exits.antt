@@ -3,7 +3,7 @@ use Rattle.std.proofs.Common.{rules, ◌≡◌, ℕ, ◌+◌, ◌<◌, ◌≤◌
 use Rattle.std.specs.List.{AllByRecursion}
 use Rattle.std.proofs.lemmas.Result.{err_from_is_err_and}
 use Rattle.std.proofs.lemmas.Bool.{and_parts, cond-true, cond-false, le-ltb, leb-true, lt-ltb}
-use Rattle.store.specs.Months.{first_short, has_reached}
+use Rattle.store.specs.Months.{first_short_month, has_reached}
 use Rattle.store.specs.declared.month.State.{State}
 use Rattle.tariff.specs.Pricing.{Meaning}
 use Rattle.tariff.specs.declared.refusal.Refusal.{Refusal}
@@ -12,7 +12,7 @@ use Rattle.book.specs.Books.{Performs, IsUnaltered, view}
 use Rattle.book.specs.Calls.{Call, Reply}
 use Rattle.book.specs.NamedMonths.{IsInBook, IsChangeable}
 use Rattle.book.specs.Steps.{view_after, answer, reply_unless, reply, view_unless}
-use Rattle.book.specs.Table.{Row, blank_book, earlier_short, first_holding, month_final, no_such_month, refusal_of}
+use Rattle.book.specs.Table.{Row, blank_book, earlier_month, first_holding, month_final, no_such_month, refusal_of}
 use Rattle.book.specs.Views.{View, month_has_reached, month_index}
 use Rattle.book.specs.declared.book.Book.{Book}
 use Rattle.book.specs.declared.book.NamedMonth.{NamedMonth}
@@ -104,19 +104,19 @@ module _ (m : ℕ) (v : View) (found : NamedMonth) (is : IsInBook m v found) (st
 -- what refuses the month that was found refuses the one that the caller named
 pub short_named : (m : ℕ) (v : View) (found : NamedMonth) → IsInBook m v found
     → (state : State) (refusal : Refusal)
-    → ((earlier_short state found.month v).holds ≡ true) × (refusal ≡ (earlier_short state found.month v).refusal)
-    → ((earlier_short state m v).holds ≡ true) × (refusal ≡ (earlier_short state m v).refusal)
+    → ((earlier_month state found.month v).holds ≡ true) × (refusal ≡ (earlier_month state found.month v).refusal)
+    → ((earlier_month state m v).holds ≡ true) × (refusal ≡ (earlier_month state m v).refusal)
 short_named m v found is state refusal short = rw is.month at short
 
 -- the lowest of the earlier months that is short of a state
 module _ (m : ℕ) (v : View) (found : NamedMonth) (is : IsInBook m v found) (state : State) (short : ℕ)
-    (counted : short ≡ first_short state v.months found.index) where
-  same_short : short ≡ first_short state v.months (month_index m)
-  same_short = counted ∙ ap (first_short state v.months) is.index
+    (counted : short ≡ first_short_month state v.months found.index) where
+  same_short : short ≡ first_short_month state v.months (month_index m)
+  same_short = counted ∙ ap (first_short_month state v.months) is.index
 
-  pub none_short : found.index ≤ short → (earlier_short state m v).holds ≡ false
-  none_short all = le-ltb (first_short state v.months (month_index m)) (month_index m) (omega (arith, same_short, is.index))
+  pub none_short : found.index ≤ short → (earlier_month state m v).holds ≡ false
+  none_short all = le-ltb (first_short_month state v.months (month_index m)) (month_index m) (omega (arith, same_short, is.index))
 
   pub one_short : short < found.index
-      → ((earlier_short state m v).holds ≡ true) × (EarlierMonth m (short + 1) ≡ (earlier_short state m v).refusal)
-  one_short less = (lt-ltb (first_short state v.months (month_index m)) (month_index m) (omega (arith, same_short, is.index)), ap (λ n. EarlierMonth m (n + 1)) same_short)
+      → ((earlier_month state m v).holds ≡ true) × (EarlierMonth m (short + 1) ≡ (earlier_month state m v).refusal)
+  one_short less = (lt-ltb (first_short_month state v.months (month_index m)) (month_index m) (omega (arith, same_short, is.index)), ap (λ n. EarlierMonth m (n + 1)) same_short)

@@ -29,8 +29,8 @@ pub record View : Type 0 where
   pub room : ℕ
 
 -- a new book
-abbrev pub blank : ℕ → ℕ → View
-blank capacity room = record {
+abbrev pub blank_view : ℕ → ℕ → View
+blank_view capacity room = record {
   point = None;
   before = earlier_peaks [];
   months = [];

@@ -14,7 +14,8 @@ use store::{Hour, Quarter, State, Store};
 use tariff::{Amounts, Facts, Refusal, Schedule};
 
 /// The months on file and the ledger of one point, over lent memory; blank until it is opened. A
-/// refused call leaves it as it was.
+/// refused call leaves it as it was. Every call but `open` is refused while the book is blank, and
+/// each that names a month where no such month was started; `ledger` is never refused.
 #[derive(Drop)]
 pub struct Book<'a> {
     pub(crate) point: Option<Point>,
@@ -40,18 +41,18 @@ pub(crate) struct NamedMonth {
 impl<'a> Book<'a> {
     ghost use Rattle.book.specs.Books.{view};
     ghost use Rattle.book.specs.NamedMonths.{IsChangeable, IsInBook, RefusesChange, RefusesMonth};
-    ghost use Rattle.book.specs.Table.{earlier_short};
-    ghost use Rattle.book.specs.Views.{blank, facts_of, month_outcome};
+    ghost use Rattle.book.specs.Table.{earlier_month};
+    ghost use Rattle.book.specs.Views.{blank_view, facts_of, month_outcome};
 
-    /// A blank book over lent memory, for as many months and entries as there is room for, 48 months
-    /// at the most. Whatever stands in the memory is never taken for a post.
+    /// A blank book over lent memory, for as many months and entries as there is room for, at most
+    /// `store::MOST_MONTHS` months. Whatever stands in the memory is never taken for a post.
     pub fn new(
         quarters: &'a mut [Quarter],
         hours: &'a mut [Hour],
         entries: &'a mut [Entry],
     ) -> Book<'a>
         ensures { view result
-            ≡ blank (capacity (length quarters.old) (length hours.old)) (length entries.old) }
+            ≡ blank_view (capacity (length quarters.old) (length hours.old)) (length entries.old) }
     {
         Book {
             point: None,
@@ -107,9 +108,9 @@ impl<'a> Book<'a> {
     pub(crate) fn check_earlier(&self, named: &NamedMonth, state: State) -> Result<(), Refusal>
         requires { IsInBook named.now.month (view self.now) named.now }
         ensures { MatchResult result
-            (λ _. (earlier_short state named.now.month (view self.now)).holds ≡ false)
-            (λ refusal. ((earlier_short state named.now.month (view self.now)).holds ≡ true)
-            × (refusal ≡ (earlier_short state named.now.month (view self.now)).refusal)) }
+            (λ _. (earlier_month state named.now.month (view self.now)).holds ≡ false)
+            (λ refusal. ((earlier_month state named.now.month (view self.now)).holds ≡ true)
+            × (refusal ≡ (earlier_month state named.now.month (view self.now)).refusal)) }
     {
         match self.store.first_short(state, named.index) {
             Some(short) => Err(Refusal::EarlierMonth {

@@ -16,6 +16,6 @@ mod request;
 pub use book::Book;
 pub use calls::perform;
 pub use memory::BookMemory;
-pub use point::{NotPointCode, PointCode};
+pub use point::{CODE_BYTES, NotPointCode, PointCode};
 pub use reports::MonthOnFile;
 pub use request::{Answer, Request};

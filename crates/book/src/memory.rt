@@ -18,9 +18,10 @@ pub struct BookMemory {
 impl BookMemory {
     ghost use Rattle.book.specs.Books.{view};
     ghost use Rattle.book.specs.Memories.{entry_room, month_room};
-    ghost use Rattle.book.specs.Views.{blank};
+    ghost use Rattle.book.specs.Views.{blank_view};
 
-    /// Memory for so many months, 48 at the most, and so many entries.
+    /// Memory for so many months, at most `store::MOST_MONTHS`, and so many entries. Refused where
+    /// there is no memory.
     pub fn new(alloc: Global, months: u32, entries: usize) -> Result<BookMemory, AllocError>
         ensures months { IfOk result (λ memory. month_room memory ≡ min MOST_MONTHS months) }
         ensures entries { IfOk result (λ memory. entry_room memory ≡ entries) }
@@ -35,7 +36,7 @@ impl BookMemory {
 
     /// A blank book over it.
     pub fn book(&mut self) -> Book<'_>
-        ensures { view result ≡ blank (month_room self.old) (entry_room self.old) }
+        ensures { view result ≡ blank_view (month_room self.old) (entry_room self.old) }
     {
         Book::new(
             self.quarters.as_mut_slice(),

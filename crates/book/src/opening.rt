@@ -13,7 +13,8 @@ impl Book<'_> {
 
     /// Opens a blank book for a point: its code, its contract and its substation total in kW, with
     /// 1 ≤ contract ≤ substation ≤ 1,000,000, and the peaks in kW of the months before month 1, the
-    /// latest first, 24 at the most.
+    /// latest first, 24 at the most. Refused where it is open already, or a value is outside its
+    /// limit.
     pub fn open(
         &mut self,
         code: PointCode,
@@ -34,7 +35,8 @@ impl Book<'_> {
         Ok(())
     }
 
-    /// Starts the next month, of 28 to 31 days; answers its number, from 1.
+    /// Starts the next month, of 28 to 31 days; answers its number, from 1. Refused where the
+    /// memory holds no further month, and for other days.
     pub fn start(&mut self, days: u32) -> Result<u32, Refusal>
         ensures { (meaning : Meaning) → Performs meaning (starts days) self.old result self.new }
     {

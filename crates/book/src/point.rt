@@ -1,60 +1,57 @@
 // The point that a book bills.
 ghost use Rattle.std.specs.Prelude.{◌≡◌, ◌≢◌, length, MatchResult};
 
-use std::error::Error;
-use std::fmt;
 use tariff::Capacities;
+use thiserror::Error;
+
+/// How many bytes a point's code has.
+pub const CODE_BYTES: usize = 8;
 
 /// The code of a point, as its operator names it: eight bytes.
 #[derive(Clone, Copy, PartialEq, Eq, Debug)]
 pub struct PointCode {
-    bytes: [u8; 8],
+    bytes: [u8; CODE_BYTES],
 }
 
 impl PointCode {
     ghost use Rattle.book.specs.PointCodes.{code_bytes};
 
     /// Its bytes, in their order.
-    pub fn bytes(self) -> [u8; 8]
+    pub fn bytes(self) -> [u8; CODE_BYTES]
         ensures { result ≡ code_bytes self }
     {
         self.bytes
     }
 }
 
-impl From<[u8; 8]> for PointCode {
+impl From<[u8; CODE_BYTES]> for PointCode {
     ghost use Rattle.book.specs.PointCodes.{code_bytes};
 
     ghost from_gives = { λ bytes code. code_bytes code ≡ bytes };
 
-    fn from(bytes: [u8; 8]) -> PointCode {
+    fn from(bytes: [u8; CODE_BYTES]) -> PointCode {
         PointCode { bytes }
     }
 }
 
 /// A text that has not eight bytes.
-#[derive(Clone, Copy, PartialEq, Eq, Debug)]
+#[derive(Clone, Copy, PartialEq, Eq, Debug, Error)]
+#[error("a point's code has 8 bytes")]
 pub struct NotPointCode;
-
-impl fmt::Display for NotPointCode {
-    fn fmt<W: fmt::Write>(&self, f: &mut fmt::Formatter<W>) -> fmt::Result {
-        f.write_str("a point's code has 8 bytes")
-    }
-}
-
-impl Error for NotPointCode {}
 
 impl TryFrom<&str> for PointCode {
     type Error = NotPointCode;
 
     ghost use Rattle.book.specs.PointCodes.{code_bytes};
+    ghost use Rattle.book.specs.declared.point.TheConstants.{CODE_BYTES};
 
     ghost try_from_gives = { λ text result. MatchResult result (λ code. code_bytes code ≡ text.now)
-        (λ _. length text.now ≢ 8) };
+        (λ _. length text.now ≢ CODE_BYTES) };
 
     fn try_from(text: &str) -> Result<PointCode, NotPointCode> {
-        let bytes = <[u8; 8]>::try_from(text.as_bytes()).map_err(|_| NotPointCode)?;
-        Ok(PointCode { bytes })
+        <[u8; CODE_BYTES]>::try_from(text.as_bytes())
+            .map(PointCode::from)
+            .map_err(|_| NotPointCode)
     }
 }
 

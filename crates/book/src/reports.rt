@@ -1,5 +1,5 @@
 // What a book tells without changing.
-ghost use Rattle.std.specs.Prelude.{◌≡◌, length, Some, MatchResult};
+ghost use Rattle.std.specs.Prelude.{◌≡◌, length, [], Some, MatchResult};
 ghost use Rattle.tariff.specs.Pricing.{Meaning};
 
 use crate::book::Book;
@@ -7,25 +7,28 @@ use ledger::{Entries, NoText};
 use store::State;
 use tariff::{Facts, LINES, Refusal, Schedule};
 
-/// A month on file: its days, its state, and the facts that it would be priced from now.
+/// A month on file, as it stands.
 #[derive(Clone, Copy)]
 pub struct MonthOnFile {
+    /// How many days it has, 28 to 31.
     pub days: u8,
+    /// Whether it is open, billed or final.
     pub state: State,
+    /// What it would be priced from now.
     pub facts: Facts,
 }
 
 impl Book<'_> {
     ghost use Rattle.book.specs.Books.{Answers, view};
     ghost use Rattle.book.specs.Calls.{asks, whether_due, line_total};
-    ghost use Rattle.book.specs.OnFile.{IsOnFile, month_rows};
-    ghost use Rattle.book.specs.Table.{IsInOrder, first_holding};
+    ghost use Rattle.book.specs.OnFile.{IsOnFile};
+    ghost use Rattle.book.specs.Table.{IsInOrder, first_holding, month_rows};
     ghost use Rattle.book.specs.Texts.{text_answer, text_bytes, text_rows};
 
     /// How a month stands; refused where the book is blank or has no such month.
     pub fn month(&self, month: u32) -> Result<MonthOnFile, Refusal>
         ensures { MatchResult result (IsOnFile month (view self.now))
-            (λ refusal. first_holding (month_rows month (view self.now)) ≡ Some refusal) }
+            (λ refusal. first_holding (month_rows month (view self.now) []) ≡ Some refusal) }
     {
         let named = self.named_month(month)?;
         Ok(MonthOnFile {
@@ -35,7 +38,8 @@ impl Book<'_> {
         })
     }
 
-    /// Whether pricing the file now would alter any line's sum of a billed month.
+    /// Whether pricing the file now would alter any line's sum of a billed month. Refused where the
+    /// month is open, and where the schedule cannot price it.
     pub fn due<S: Schedule>(&self, month: u32, schedule: &S) -> Result<bool, Refusal>
         ensures { Answers (S.meaning schedule.now) (asks (whether_due month)) self.now result }
     {
@@ -52,7 +56,8 @@ impl Book<'_> {
         )
     }
 
-    /// What the entries of a billed month for a line, from 1, add up to in cents.
+    /// What the entries of a billed month for a line, from 1, add up to in cents. Refused where
+    /// there is no such line, and where the month is open.
     pub fn total(&self, month: u32, line: u32) -> Result<i64, Refusal>
         ensures { (meaning : Meaning)
             → Answers meaning (asks (line_total month line)) self.now result }
@@ -78,8 +83,8 @@ impl Book<'_> {
     }
 
     /// Prints an entry, by its number from 0, as a line at the front of the bytes; answers its
-    /// length. Refused where there is no such entry, and where there are fewer bytes than
-    /// `ledger::MOST_BYTES`.
+    /// length. Refused where the book is blank, where there is no such entry, and where there are
+    /// fewer bytes than `ledger::MOST_BYTES`.
     pub fn text(&self, entry: u32, bytes: &mut [u8]) -> Result<usize, Refusal>
         ensures answer { result ≡ text_answer entry (length bytes.old) (view self.now) }
         ensures bytes { bytes.new ≡ text_bytes entry (view self.now) bytes.old }

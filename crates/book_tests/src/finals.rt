@@ -3,12 +3,13 @@ use crate::calls::{Ask, By, Call, Reply, refused, run};
 use crate::support::{CODE, LINES_BILLED, Memory, totals};
 use book::Book;
 use std::test::Fail;
+use store::{MONTH_HOURS, MONTH_QUARTERS};
 use tariff::Refusal;
 
 // A final month takes no post, whatever is posted, and keeps its sums.
 #[test]
 fn a_month_is_billed_and_made_final(rt: HostRuntime) -> Result<(), Fail> {
-    let mut memory = Memory::<2976, 744, 14>::new();
+    let mut memory = Memory::<MONTH_QUARTERS, MONTH_HOURS, 14>::new();
     let mut book = memory.book();
     run(
         &rt,

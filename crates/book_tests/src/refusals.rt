@@ -2,6 +2,7 @@
 use crate::calls::{Ask, By, Call, Reply, refused, run};
 use crate::support::{CODE, Memory, USUAL};
 use std::test::Fail;
+use store::{DAY_QUARTERS, MONTH_HOURS, MONTH_QUARTERS};
 
 // The code of another point.
 const OTHER: [u8; 8] = *b"POINT002";
@@ -82,7 +83,7 @@ fn months_have_28_to_31_days(rt: HostRuntime) {
 
 #[test]
 fn a_month_that_is_not_there(rt: HostRuntime) {
-    let mut memory = Memory::<2976, 744, 14>::new();
+    let mut memory = Memory::<MONTH_QUARTERS, MONTH_HOURS, 14>::new();
     let mut book = memory.book();
     run(
         &rt,
@@ -112,7 +113,7 @@ fn a_month_that_is_not_there(rt: HostRuntime) {
 
 #[test]
 fn what_is_posted_has_limits(rt: HostRuntime) {
-    let mut memory = Memory::<2976, 744, 14>::new();
+    let mut memory = Memory::<MONTH_QUARTERS, MONTH_HOURS, 14>::new();
     let mut book = memory.book();
     run(
         &rt,
@@ -147,7 +148,7 @@ fn what_is_posted_has_limits(rt: HostRuntime) {
 // A final month takes no post, whatever else is wrong with it.
 #[test]
 fn a_final_month_comes_before_what_is_posted(rt: HostRuntime) {
-    let mut memory = Memory::<2976, 744, 14>::new();
+    let mut memory = Memory::<MONTH_QUARTERS, MONTH_HOURS, 14>::new();
     let mut book = memory.book();
     run(
         &rt,
@@ -178,7 +179,7 @@ fn a_final_month_comes_before_what_is_posted(rt: HostRuntime) {
 
 #[test]
 fn a_bill_wants_readings_and_prices(rt: HostRuntime) -> Result<(), Fail> {
-    let mut memory = Memory::<2976, 744, 13>::new();
+    let mut memory = Memory::<MONTH_QUARTERS, MONTH_HOURS, 13>::new();
     let mut book = memory.book();
     run(
         &rt,
@@ -193,7 +194,7 @@ fn a_bill_wants_readings_and_prices(rt: HostRuntime) -> Result<(), Fail> {
         ],
     );
     for day in 2..30 {
-        book.post_day(1, day, CODE.into(), &[USUAL; 96])
+        book.post_day(1, day, CODE.into(), &[USUAL; DAY_QUARTERS])
             .map_err(|_| "a day was refused")?;
     }
     run(

@@ -4,11 +4,11 @@ use crate::support::Memory;
 use book::Book;
 use ledger::Entry;
 use std::mem::size_of;
-use store::{Hour, Quarter};
+use store::{Hour, MONTH_HOURS, MONTH_QUARTERS, Quarter};
 
 #[test]
 fn a_bill_and_a_true_up_that_just_fit(rt: HostRuntime) {
-    let mut memory = Memory::<2976, 744, 19>::new();
+    let mut memory = Memory::<MONTH_QUARTERS, MONTH_HOURS, 19>::new();
     let mut book = memory.book();
     run(
         &rt,
@@ -28,7 +28,7 @@ fn a_bill_and_a_true_up_that_just_fit(rt: HostRuntime) {
 
 #[test]
 fn a_true_up_with_one_entry_too_few(rt: HostRuntime) {
-    let mut memory = Memory::<2976, 744, 18>::new();
+    let mut memory = Memory::<MONTH_QUARTERS, MONTH_HOURS, 18>::new();
     let mut book = memory.book();
     run(
         &rt,

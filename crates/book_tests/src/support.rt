@@ -7,8 +7,8 @@ use tariff::{LINES, Line, Refusal};
 // The code of the point.
 pub(crate) const CODE: [u8; 8] = *b"POINT001";
 
-// What stands in a ledger's memory before anything is written to it.
-pub(crate) const UNWRITTEN: Entry = Entry {
+// What may stand in a ledger's memory.
+pub(crate) const STALE: Entry = Entry {
     month: 1,
     kind: EntryKind::Bill,
     line: 1,
@@ -40,7 +40,7 @@ impl<const Q: usize, const H: usize, const E: usize> Memory<Q, H, E> {
         Memory {
             quarters: [Quarter::NEVER_POSTED; Q],
             hours: [Hour::NEVER_POSTED; H],
-            entries: [UNWRITTEN; E],
+            entries: [STALE; E],
         }
     }
 

@@ -1,10 +1,9 @@
 // Entries in print, in lent bytes.
-use crate::support::{CODE, LINES_BILLED, Memory, UNWRITTEN, start_full};
+use crate::support::{CODE, Memory, start_full};
 use book::Book;
-use ledger::{Entry, EntryKind, LineColumns, MOST_BYTES};
+use ledger::{LineColumns, MOST_BYTES};
 use rates::dts::DTS_2007;
-use std::test::Fail;
-use store::{Post, Reading};
+use store::{MONTH_HOURS, MONTH_QUARTERS, Post, Reading};
 use tariff::{Draft, Refusal};
 
 // What stands in the bytes before a call.
@@ -24,7 +23,7 @@ fn trued_up(book: &mut Book<'_>) -> Result<usize, Refusal> {
 
 #[test]
 fn an_entry_stands_at_the_front(rt: HostRuntime) {
-    let mut memory = Memory::<2976, 744, 14>::new();
+    let mut memory = Memory::<MONTH_QUARTERS, MONTH_HOURS, 14>::new();
     let mut book = memory.book();
     assert_eq!(rt; billed(&mut book), Ok(()));
     let mut bytes = [INK; 30];
@@ -37,14 +36,14 @@ fn an_entry_stands_at_the_front(rt: HostRuntime) {
 
 #[test]
 fn a_sign_is_printed(rt: HostRuntime) {
-    let mut memory = Memory::<2976, 744, 28>::new();
+    let mut memory = Memory::<MONTH_QUARTERS, MONTH_HOURS, 28>::new();
     let mut book = memory.book();
     assert_eq!(rt; billed(&mut book), Ok(()));
-    let late = Reading {
+    let late_reading = Reading {
         kw: 20_000,
         kva: 22_000,
     };
-    assert_eq!(rt; book.post(1, 0, Post::Reading(late)), Ok(()));
+    assert_eq!(rt; book.post(1, 0, Post::Reading(late_reading)), Ok(()));
     assert_eq!(rt; trued_up(&mut book), Ok(5));
     let mut bytes = [INK; MOST_BYTES];
     assert_eq!(rt; book.text(18, &mut bytes), Ok(13));
@@ -53,62 +52,62 @@ fn a_sign_is_printed(rt: HostRuntime) {
 
 #[test]
 fn a_line_has_three_columns(rt: HostRuntime) {
-    let mut memory = Memory::<2976, 744, 28>::new();
+    let mut memory = Memory::<MONTH_QUARTERS, MONTH_HOURS, 28>::new();
     let mut book = memory.book();
     assert_eq!(rt; billed(&mut book), Ok(()));
-    let late = Reading {
+    let late_reading = Reading {
         kw: 20_000,
         kva: 22_000,
     };
-    assert_eq!(rt; book.post(1, 0, Post::Reading(late)), Ok(()));
+    assert_eq!(rt; book.post(1, 0, Post::Reading(late_reading)), Ok(()));
     assert_eq!(rt; trued_up(&mut book), Ok(5));
-    let apparent = LineColumns {
+    let power_factor = LineColumns {
         billed: 90_000,
         trued_up: -90_000,
         total: 0,
     };
-    assert_eq!(rt; book.ledger().columns(1, 8), apparent);
-    let capacity = LineColumns {
+    assert_eq!(rt; book.ledger().columns(1, 8), power_factor);
+    let system_energy = LineColumns {
         billed: 1_015_729,
         trued_up: -176,
         total: 1_015_553,
     };
-    assert_eq!(rt; book.ledger().columns(1, 2), capacity);
+    assert_eq!(rt; book.ledger().columns(1, 2), system_energy);
 }
 
 #[test]
 fn the_upper_row_wins(rt: HostRuntime) {
-    let mut memory = Memory::<2976, 744, 14>::new();
+    let mut memory = Memory::<MONTH_QUARTERS, MONTH_HOURS, 14>::new();
     let mut book = memory.book();
-    let mut few = [INK; MOST_BYTES - 1];
+    let mut few_bytes = [INK; MOST_BYTES - 1];
     let numbers = |refusal: Refusal| refusal.numbers();
     // a blank book has no entries either
-    let blank = book.text(3, &mut few);
-    assert_eq!(rt; blank, Err(Refusal::BookBlank { month: 0 }));
+    let on_blank_book = book.text(3, &mut few_bytes);
+    assert_eq!(rt; on_blank_book, Err(Refusal::BookBlank { month: 0 }));
     assert_eq!(rt; billed(&mut book), Ok(()));
-    let none = book.text(14, &mut few);
+    let past_last = book.text(14, &mut few_bytes);
     assert_eq!(rt;
-        none,
+        past_last,
         Err(Refusal::NoSuchPlace {
             month: 0,
             place: 14
         })
     );
-    let last = book.text(u32::MAX, &mut few);
+    let at_highest = book.text(u32::MAX, &mut few_bytes);
     assert_eq!(rt;
-        last,
+        at_highest,
         Err(Refusal::NoSuchPlace {
             month: 0,
             place: 4_294_967_295
         })
     );
-    let short = book.text(13, &mut few);
-    assert_eq!(rt; short, Err(Refusal::TooFewBytes));
-    let listed = short
+    let in_few_bytes = book.text(13, &mut few_bytes);
+    assert_eq!(rt; in_few_bytes, Err(Refusal::TooFewBytes));
+    let refusal_numbers = in_few_bytes
         .map_err(numbers)
         .err()
         .map(|n| (n.number, n.month, n.place, n.rider));
-    assert_eq!(rt; listed, Some((19, 0, 0, 0)));
-    assert_eq!(rt; few, [INK; MOST_BYTES - 1]);
+    assert_eq!(rt; refusal_numbers, Some((19, 0, 0, 0)));
+    assert_eq!(rt; few_bytes, [INK; MOST_BYTES - 1]);
     assert_eq!(rt; book.text(13, &mut [INK; MOST_BYTES]), Ok(9));
 }

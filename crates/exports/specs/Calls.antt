@@ -6,13 +6,13 @@ use Rattle.book.specs.Calls.{Call, opens, starts, posts, posts_day, bills, trues
 use Rattle.store.specs.declared.post.Post.TheVariants.{Reading as OfReading, Price as OfPrice, Scheduled as OfScheduled}
 use Rattle.store.specs.declared.post.Reading.{Reading}
 use Rattle.exports.specs.declared.call.CallKind.{CallKind}
-use Rattle.exports.specs.declared.call.CallKind.TheVariants.{Open, Start, PostReading, PostDay, PostPrice, PostSchedule, Bill, TrueUp, Finalise, Due, Total}
+use Rattle.exports.specs.declared.call.CallKind.TheVariants.{Open, Start, PostReading, PostDay, PostPrice, PostScheduled, Bill, TrueUp, Finalise, Due, Total}
 use Rattle.exports.specs.declared.call.CallRecord.{CallRecord}
 
 -- the kinds of calls in the order of their numbers, from 0
 abbrev pub call_kinds : List CallKind
 call_kinds =
-    Open ∷ Start ∷ PostReading ∷ PostDay ∷ PostPrice ∷ PostSchedule
+    Open ∷ Start ∷ PostReading ∷ PostDay ∷ PostPrice ∷ PostScheduled
     ∷ Bill ∷ TrueUp ∷ Finalise ∷ Due ∷ Total ∷ []
 
 -- so many items of a list from a place on, where it has them
@@ -30,7 +30,7 @@ call_of_kind carried readings r PostReading =
 call_of_kind carried readings r PostDay =
     option_map (posts_day r.month r.place r.code) (part_of readings r.from r.count)
 call_of_kind carried readings r PostPrice = Some (posts r.month r.place (OfPrice r.first))
-call_of_kind carried readings r PostSchedule = Some (posts r.month r.place (OfScheduled r.first))
+call_of_kind carried readings r PostScheduled = Some (posts r.month r.place (OfScheduled r.first))
 call_of_kind carried readings r Bill = Some (bills r.month)
 call_of_kind carried readings r TrueUp = Some (trues_up r.month)
 call_of_kind carried readings r Finalise = Some (finalises r.month)

@@ -3,7 +3,7 @@ use Rattle.std.specs.Prelude.{◌≡◌, ℕ, ◌≢◌, List, [], ◌∷◌, �
 use Rattle.book.specs.Calls.{Call}
 use Rattle.book.specs.Requests.{answer_of}
 use Rattle.book.specs.Steps.{answer, step}
-use Rattle.book.specs.Views.{View, blank}
+use Rattle.book.specs.Views.{View, blank_view}
 use Rattle.book.specs.declared.request.Answer.TheVariants.{Written}
 use Rattle.piles.specs.declared.rate.RateSheet.{RateSheet}
 use Rattle.piles.specs.declared.rider.RiderSheet.{RiderSheet}
@@ -46,7 +46,7 @@ view_after_calls meaning (call ∷ calls) v = view_after_calls meaning calls (vi
 
 -- the book that a run begins with
 abbrev pub new_book : ℕ → List EntryRecord → View
-new_book months entries = blank (min MOST_MONTHS months) (length entries)
+new_book months entries = blank_view (min MOST_MONTHS months) (length entries)
 
 -- the records with these over the first of them, as many as fit
 abbrev pub records_with : List EntryRecord → List EntryRecord → List EntryRecord

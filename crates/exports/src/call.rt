@@ -40,7 +40,7 @@ enum CallKind {
     PostReading,
     PostDay,
     PostPrice,
-    PostSchedule,
+    PostScheduled,
     Bill,
     TrueUp,
     Finalise,
@@ -55,7 +55,7 @@ const CALL_KINDS: [CallKind; 11] = [
     CallKind::PostReading,
     CallKind::PostDay,
     CallKind::PostPrice,
-    CallKind::PostSchedule,
+    CallKind::PostScheduled,
     CallKind::Bill,
     CallKind::TrueUp,
     CallKind::Finalise,
@@ -141,7 +141,7 @@ impl CallRecord {
                 place,
                 post: Post::Price(first),
             },
-            CallKind::PostSchedule => Request::Post {
+            CallKind::PostScheduled => Request::Post {
                 month,
                 place,
                 post: Post::Scheduled(first),

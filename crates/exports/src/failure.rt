@@ -9,14 +9,14 @@ use std::alloc::AllocError;
 use tariff::Refusal;
 use thiserror::Error;
 
-// A description that no call, rate or rider has.
+// A description that is of no call, rate or rider.
 #[derive(Clone, Copy, PartialEq, Eq, Debug, Error)]
 #[error("the description is of no call, rate or rider")]
 pub(crate) struct Damaged;
 
 #[derive(Clone, Copy, PartialEq, Eq, Debug, Error)]
 pub(crate) enum Failure {
-    #[error("a description is of no call, rate or rider")]
+    #[error("the description is of no call, rate or rider")]
     Damaged,
     #[error(transparent)]
     Refused(Refusal),

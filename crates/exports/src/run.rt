@@ -15,7 +15,7 @@ use std::alloc::Global;
 use store::Reading;
 use tariff::Schedule;
 
-// The call of a record; one that describes none alters nothing.
+// Performs the call of a record; one that describes none alters nothing.
 fn run_record<S: Schedule>(
     book: &mut Book<'_>,
     schedule: &S,
@@ -60,7 +60,7 @@ fn run_records<S: Schedule>(
     }
 }
 
-// How many entries the ledger has.
+// The run of the records; how many entries its ledger has.
 fn run_calls(
     alloc: Global,
     rate: &RateRecord,
@@ -91,12 +91,12 @@ fn run_calls(
     Ok(ledger.len())
 }
 
-/// Makes calls on a new book with memory for so many months, 48 at the most, and for as many
-/// entries as there are records. Carried peaks and days' readings are parts of the two lists: kW,
-/// and kW and kVA. What each call answers is written, and the entries of the ledger over the first
-/// records; the answer is how many entries the ledger has. Where there is not an answer for each
-/// call, a rate or rider is damaged or refused, or there is no memory, that is the answer, and
-/// nothing is written.
+/// Makes calls on a new book with memory for so many months, at most `store::MOST_MONTHS`, and for
+/// as many entries as there are records. Carried peaks and days' readings are parts of the two
+/// lists: kW, and kW and kVA. What each call answers is written, and the entries of the ledger
+/// over the first records; the answer is how many entries the ledger has. Where there is not an
+/// answer for each call, a rate or rider is damaged or refused, or there is no memory, that is the
+/// answer, and nothing is written.
 #[unsafe(no_mangle)]
 pub extern "C" fn mohzetna_run(
     alloc: Global,

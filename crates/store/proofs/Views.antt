@@ -10,7 +10,7 @@ use Rattle.std.specs.List.{range_with_len, prefix_len}
 use Rattle.std.proofs.lemmas.List.FromFn.{fill_by_all}
 use Rattle.std.proofs.lemmas.Bool.{cases_lt, ltb-false, ltb-true}
 use Rattle.std.proofs.lemmas.List.{drop-map, length-drop, length-take, get_or-drop, get_or-take, get_or_default, get_or-map, get_or_past, length-map, take-map}
-use Rattle.store.specs.Months.{Month, ratchet_peak, first_short, new_month, hours_of, kw_of, no_month, peak, quarters_of, has_reached, top}
+use Rattle.store.specs.Months.{Month, ratchet_peak, first_short_month, new_month, hours_of, kw_of, no_month, peak, quarters_of, has_reached, top}
 use Rattle.store.specs.declared.carried.TheConstants.{RATCHET}
 use Rattle.store.specs.declared.memory.TheConstants.{MONTH_HOURS, MONTH_QUARTERS}
 use Rattle.store.specs.Records.{first_record, hour_of, peak_in, reading_of, record_in, stretch}
@@ -76,7 +76,7 @@ module _ (store : Store) where
   -- the first month short of a state, by the records
   pub first_short_counted : (state : State) (k : ℕ)
       → prefix_len (λ month. has_reached state month.state)
-      (take k (take store.started (drop RATCHET store.records))) ≡ first_short state (months_of store) k
+      (take k (take store.started (drop RATCHET store.records))) ≡ first_short_month state (months_of store) k
   unfolding months_of month_of
   first_short_counted state k =
       let of_record : MonthRecord → Bool = λ month. has_reached state month.state in

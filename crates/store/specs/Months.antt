@@ -72,8 +72,8 @@ abbrev pub missing_place : Missing → ℕ
 missing_place (MissingReading quarter) = quarter
 missing_place (MissingPrice hour) = PAST_QUARTERS + hour
 
-abbrev pub missing : Month → Option ℕ
-missing month = option_map missing_place (first_missing month)
+abbrev pub first_missing_place : Month → Option ℕ
+first_missing_place month = option_map missing_place (first_missing month)
 
 -- what a place counts where no reading or price is on file: nothing
 abbrev pub kw_of : Option Reading → ℕ
@@ -131,5 +131,5 @@ has_reached Final Final = true
 has_reached Final _ = false
 
 -- the first of the months before place k that has not reached a state; k where all have
-abbrev pub first_short : State → List Month → ℕ → ℕ
-first_short state months k = prefix_len (λ month. has_reached state month.state) (take k months)
+abbrev pub first_short_month : State → List Month → ℕ → ℕ
+first_short_month state months k = prefix_len (λ month. has_reached state month.state) (take k months)

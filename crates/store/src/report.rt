@@ -110,7 +110,7 @@ fn fill_rows(rows: &mut [HourRow], quarters: &[Quarter], hours: &[Hour])
 
 impl Store<'_> {
     ghost use Rattle.store.specs.Facts.{facts_of_month};
-    ghost use Rattle.store.specs.Months.{first_missing, first_short, hour_rows, quarters_of, hours_of};
+    ghost use Rattle.store.specs.Months.{first_missing, first_short_month, hour_rows, quarters_of, hours_of};
     ghost use Rattle.store.specs.Rows.{rows_in};
     ghost use Rattle.store.specs.Stores.{earlier_peaks_of, month_in, months_of};
 
@@ -186,8 +186,8 @@ impl Store<'_> {
     /// where all have.
     pub fn first_short(&self, state: State, k: usize) -> Option<usize>
         ensures { MatchOption result
-            (first_short state (months_of self.now) k ≡ min (length (months_of self.now)) k)
-            (λ short. (first_short state (months_of self.now) k ≡ short)
+            (first_short_month state (months_of self.now) k ≡ min (length (months_of self.now)) k)
+            (λ short. (first_short_month state (months_of self.now) k ≡ short)
             × (short < min (length (months_of self.now)) k)) }
     {
         self.months()

@@ -2,11 +2,11 @@ use Rattle.std.proofs.Common.{◌≡◌, ℕ, suc, ◌+◌, ◌-◌, List, [], �
 use Rattle.book.specs.Books.{view}
 use Rattle.book.specs.Calls.{Call}
 use Rattle.book.specs.Steps.{answer, step}
-use Rattle.book.specs.Views.{View, blank}
+use Rattle.book.specs.Views.{View, blank_view}
 use Rattle.tariff.specs.Pricing.{Meaning}
 use Rattle.audit.specs.Audits.{Audits, Chooses, MakesRun, goes_on, over, stops}
 use Rattle.book.specs.Requests.{answer_of, call_of}
-use Rattle.audit.specs.Runs.{view_after_run}
+use Rattle.audit.specs.Runs.{view_after_calls}
 use Rattle.book.specs.declared.request.Answer.{Answer}
 use Rattle.book.specs.declared.request.Answer.TheVariants.{Begun}
 use Rattle.audit.proofs.Ordered.{in_order}
@@ -16,7 +16,7 @@ use Rattle.audit.proofs.auditing.audit.Goals as goal
 module _ {A : Type 0} (chooses : Chooses A) (meaning : Meaning) where
   -- an audit leaves what its calls make of the book
   performed_by : {n : ℕ} {a b : A} {last : Answer} {v w : View} {calls : List Call}
-      → Audits chooses meaning n a last v calls b w → w ≡ view_after_run meaning calls v
+      → Audits chooses meaning n a last v calls b w → w ≡ view_after_calls meaning calls v
   performed_by over = refl
   performed_by (stops chose) = refl
   performed_by (goes_on chose rest) = performed_by rest
@@ -32,7 +32,7 @@ module _ {A : Type 0} (chooses : Chooses A) (meaning : Meaning) where
       → Audits chooses meaning n a last v calls b w → Audits chooses meaning turns a last v calls b w
   of_turns {a = a} {b} {last} {v} {w} {calls} turns is audited = subst (λ n. Audits chooses meaning n a last v calls b w) is audited
 
-  made_by : {turns : ℕ} {a b : A} {v w : View} {calls : List Call} (months room : ℕ) → v ≡ blank months room
+  made_by : {turns : ℕ} {a b : A} {v w : View} {calls : List Call} (months room : ℕ) → v ≡ blank_view months room
       → Audits chooses meaning turns a Begun v calls b w → MakesRun chooses meaning turns a months room b w
   made_by {turns} {a} {b} {w = w} {calls} months room is audited =
       let from = subst (λ v. Audits chooses meaning turns a Begun v calls b w) is audited in

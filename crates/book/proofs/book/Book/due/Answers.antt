@@ -3,7 +3,7 @@ use Rattle.ledger.specs.Entries.{first_differing, sums}
 use Rattle.store.specs.declared.month.State.TheVariants.{Billed}
 use Rattle.book.specs.Books.{view}
 use Rattle.book.specs.Calls.{asks, whether_due}
-use Rattle.book.specs.Table.{due_rows, month_open, past_limit}
+use Rattle.book.specs.Table.{due_rows, month_open, line_past_limit}
 use Rattle.book.specs.Views.{altered_line, month_has_reached}
 use Rattle.book.proofs.Exits.{answers_refused, answers_taken, found_state, in_book_passes, pass}
 use Rattle.book.proofs.Priced.{amounts_are, no_fault}
@@ -28,5 +28,5 @@ returns g c =
     let billed : month_has_reached Billed m v ≡ true = found_state m v c.in_ok-named.named is Billed _ c.has_reached.ensures ∙ c.if-not-has_reached.false in
     answers_taken meaning (asks (whether_due m)) c.args.self.now c.is_some.result
     (in_book_passes m v c.in_ok-named.named is (due_rows meaning m v)
-    ∙ pass (month_open m v) (past_limit meaning m v ∷ []) _ (rw billed refl) (pass (past_limit meaning m v) [] _ (no_fault meaning v m amounts ok) refl))
+    ∙ pass (month_open m v) (line_past_limit meaning m v ∷ []) _ (rw billed refl) (pass (line_past_limit meaning m v) [] _ (no_fault meaning v m amounts ok) refl))
     (c.is_some.ensures ∙ ap is_some (c.first_differing.ensures ∙ ap (λ es. first_differing amounts.cents (sums es c.in_ok-named.named.number)) c.entries.ensures ∙ ap₂ first_differing (amounts_are meaning v m amounts ok) (ap (sums v.ledger) is.number)))
