@@ -1,6 +1,7 @@
 -- The words of a line: what stands between its spaces, up to its comment.
 use Rattle.std.specs.Prelude.{ℕ, ◌==◌, ◌&&◌, Bool, true, not, List, [], ◌∷◌, length, Option, Some, None, nat_lt}
 use Rattle.std.specs.List.{before_first, filter, flat_map, slice_split}
+use Rattle.std.specs.Option.{option_and_then}
 
 -- a line before the first `#`, or all of it
 abbrev pub uncommented : List ℕ → List ℕ
@@ -32,7 +33,7 @@ abbrev pub first_word : List (List ℕ) → Option (List ℕ × List (List ℕ))
 first_word [] = None
 first_word (word ∷ words) = Some (word, words)
 
+-- what `do` is made of
 infixl 10 ◌>>=◌
 abbrev pub ◌>>=◌ : {A B : Type 0} → Option A → (A → Option B) → Option B
-None >>= f = None
-(Some x) >>= f = f x
+found >>= next = option_and_then next found
