@@ -24,7 +24,8 @@ pub data CallValue : Type 0 where
   plain : (call : Call) → CallValue
 
 abbrev pub call_value : Call → CallValue
-call_value (TheOpen code contract substation carried) = opening_call code.now contract substation carried.items
+call_value (TheOpen code contract substation carried) =
+    opening_call code.now contract substation carried.items
 call_value (ThePostDay month day code readings) = day_call month day code.now readings.items
 call_value (TheLoad kind month file) = load_call kind month file.now
 call_value call = plain call

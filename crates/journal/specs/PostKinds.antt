@@ -4,7 +4,7 @@ use Rattle.std.specs.Option.{option_map}
 use Rattle.store.specs.declared.post.Post.{Post}
 use Rattle.store.specs.declared.post.Post.TheVariants.{Reading as TheReading, Price as ThePrice, Scheduled as TheScheduled}
 use Rattle.journal.specs.Tokens.{cut_of, parsed_number, reading_between}
-use Rattle.journal.specs.Words.{◌>>=◌}
+use Rattle.journal.specs.Words.{◌>>=◌, comma}
 use Rattle.journal.specs.declared.parse_error.ParseError.{ParseError}
 use Rattle.journal.specs.declared.parse_error.ParseError.TheVariants.{NoPost}
 use Rattle.journal.specs.declared.post_kind.PostKind.{PostKind}
@@ -31,14 +31,14 @@ post_form Scheduled = codes "HOUR,KW"
 
 -- the post after its place
 abbrev pub post_after : PostKind → List ℕ → Option Post
-post_after Reading text = option_map TheReading (reading_between 44 text)
+post_after Reading text = option_map TheReading (reading_between comma text)
 post_after Price text = option_map ThePrice (parsed_number text)
 post_after Scheduled text = option_map TheScheduled (parsed_number text)
 
 -- a place, a comma, and the post
 unfoldable pub post_of : PostKind → List ℕ → Option (ℕ × Post)
 post_of kind word = do
-  parts ← cut_of 44 word
+  parts ← cut_of comma word
   place ← parsed_number parts.0
   post ← post_after kind parts.1
   Some (place, post)

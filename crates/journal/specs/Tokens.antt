@@ -5,7 +5,7 @@ use Rattle.std.specs.Option.{option_and_then, option_map}
 use Rattle.std.specs.Str.{all_ascii_digits}
 use Rattle.std.specs.Str.Parse.{digits_value, signed_digits_value, starts_with_minus, without_leading_plus, without_leading_sign}
 use Rattle.store.specs.declared.post.Reading.{Reading}
-use Rattle.journal.specs.Words.{◌>>=◌}
+use Rattle.journal.specs.Words.{◌>>=◌, slash}
 
 -- digits, one or more
 abbrev pub are_digits : List ℕ → Bool
@@ -49,10 +49,10 @@ reading_between separator text = do
 
 -- in a call, with a slash
 abbrev pub parsed_reading : List ℕ → Option Reading
-parsed_reading word = reading_between 47 word
+parsed_reading word = reading_between slash word
 
 abbrev pub reading_text : Reading → List ℕ
-reading_text reading = decimal reading.kw ++ (47 ∷ decimal reading.kva)
+reading_text reading = decimal reading.kw ++ (slash ∷ decimal reading.kva)
 
 -- what each word writes down, where all of them are such tokens
 abbrev pub parsed_values : {X : Type 0} → (List ℕ → Option X) → List (List ℕ) → Option (List X)
