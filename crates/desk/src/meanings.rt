@@ -1,8 +1,8 @@
 // What each refusal means, in words for people.
 use tariff::{Fault, Line, Refusal};
 
-// One refusal of each kind, in the order of their numbers.
-const KINDS: [Refusal; 19] = [
+/// One refusal of each kind, in the order of their numbers, which count from 1.
+pub(crate) const KINDS: &[Refusal] = &[
     Refusal::BookBlank { month: 0 },
     Refusal::BookOpen,
     Refusal::OpeningOutside,
@@ -103,10 +103,12 @@ mod tests {
 
     #[test]
     fn each_number_of_the_table_has_a_meaning(rt: HostRuntime) {
-        for number in 1..=19 {
-            assert!(rt; meaning_of(number).is_some());
+        for (i, kind) in KINDS.iter().enumerate() {
+            let number = kind.numbers().number;
+            assert_eq!(rt; usize::from(number), i + 1);
+            assert_eq!(rt; meaning_of(number), Some(meaning(kind)));
         }
         assert!(rt; meaning_of(0).is_none());
-        assert!(rt; meaning_of(20).is_none());
+        assert!(rt; meaning_of(KINDS.len() as u8 + 1).is_none());
     }
 }
