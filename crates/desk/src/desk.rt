@@ -51,7 +51,7 @@ impl<'b> Desk<'b> {
             // memory is given before the book is made
             Call::Memory { .. } => return Err(LineError::LateMemory.into()),
             Call::Rate(rate) => return write_chosen(out, self.schedule.begin(alloc, rate)),
-            Call::Rider(rider) => return write_chosen(out, self.schedule.lay(rider)),
+            Call::Rider(rider) => return write_chosen(out, self.schedule.add_rider(rider)),
             Call::PostRange {
                 month,
                 first,
@@ -134,9 +134,8 @@ impl<'b> Desk<'b> {
         }
         let entries = self.book.ledger();
         for entry in 0..entries.slice.len() {
-            if let Ok(length) = entries.text(entry, &mut line) {
-                out.write_all(&line[..length])?;
-            }
+            let length = entries.text(entry, &mut line)?;
+            out.write_all(&line[..length])?;
         }
         Ok(())
     }

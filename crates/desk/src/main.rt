@@ -16,23 +16,25 @@ mod tests;
 
 use crate::desk::Surroundings;
 use crate::help::print_help;
+use crate::meanings::meaning_of;
 use crate::running::run;
 use anyhow::{Context, Result, bail};
 use std::io::{self, BufWriter, Write};
 use std::process::ExitCode;
 use std::{env, fs};
+use tariff::Refusal;
 
 fn explain(rt: &HostRuntime, number: &str) -> Result<()> {
-    let meaning = number.parse().ok().and_then(meanings::meaning_of);
+    let meaning = number.parse().ok().and_then(meaning_of);
     println!(rt;
         "{}",
-        meaning.context("refusals are numbered from 1 to 19")?
+        meaning.context(format_args!("refusals are numbered from 1 to {}", Refusal::KINDS.len()))?
     )?;
     Ok(())
 }
 
 // Performs a journal; what it answered before it stopped is written all the same.
-fn perform(rt: &HostRuntime, folder: &str, journal: &str) -> Result<()> {
+fn perform_journal(rt: &HostRuntime, folder: &str, journal: &str) -> Result<()> {
     let mut out = BufWriter::new(rt.alloc(), io::writer(rt))?;
     let ended = run(Surroundings { rt, folder }, journal, &mut out);
     out.flush()?;
@@ -46,41 +48,41 @@ fn folder_of(path: &str) -> &str {
 
 // What the desk is called for.
 #[derive(Drop)]
-enum Wanted {
+enum Command {
     Journal,
     JournalIn(String),
     Meaning(String),
     Help,
 }
 
-fn read_words(rt: &HostRuntime) -> Result<Wanted> {
+fn read_words(rt: &HostRuntime) -> Result<Command> {
     let mut words = env::args(rt)?.skip(1);
     let Some(word) = words.next() else {
-        return Ok(Wanted::Journal);
+        return Ok(Command::Journal);
     };
     let next = words.next();
     if words.next().is_some() {
         bail!("desk --help says how it is called");
     }
     match (word.as_str(), next) {
-        ("--help", None) => Ok(Wanted::Help),
-        ("--explain", Some(number)) => Ok(Wanted::Meaning(number)),
-        (path, None) if !path.starts_with("--") => Ok(Wanted::JournalIn(word)),
+        ("--help", None) => Ok(Command::Help),
+        ("--explain", Some(number)) => Ok(Command::Meaning(number)),
+        (path, None) if !path.starts_with("--") => Ok(Command::JournalIn(word)),
         _ => bail!("desk --help says how it is called"),
     }
 }
 
 fn perform_file(rt: &HostRuntime, path: &str) -> Result<()> {
     let journal = fs::read_to_string(rt, path).context(format_args!("cannot read {path}"))?;
-    perform(rt, folder_of(path), &journal)
+    perform_journal(rt, folder_of(path), &journal)
 }
 
 fn answer(rt: &HostRuntime) -> Result<()> {
     match read_words(rt)? {
-        Wanted::Journal => perform(rt, "", &io::read_to_string(rt.alloc(), rt.reader())?),
-        Wanted::JournalIn(path) => perform_file(rt, &path),
-        Wanted::Meaning(number) => explain(rt, &number),
-        Wanted::Help => Ok(print_help(rt)?),
+        Command::Journal => perform_journal(rt, "", &io::read_to_string(rt.alloc(), rt.reader())?),
+        Command::JournalIn(path) => perform_file(rt, &path),
+        Command::Meaning(number) => explain(rt, &number),
+        Command::Help => Ok(print_help(rt)?),
     }
 }
 

@@ -1,38 +1,11 @@
 // What each refusal means, in words for people.
-use tariff::{Fault, Line, Refusal};
-
-// One refusal of each kind, in the order of their numbers.
-const KINDS: [Refusal; 19] = [
-    Refusal::BookBlank { month: 0 },
-    Refusal::BookOpen,
-    Refusal::OpeningOutside,
-    Refusal::NoMonthFree,
-    Refusal::DaysOutside,
-    Refusal::NoSuchMonth { month: 0 },
-    Refusal::MonthFinal { month: 0 },
-    Refusal::NoSuchPlace { month: 0, place: 0 },
-    Refusal::OtherPoint { month: 0 },
-    Refusal::OutsideLimit { month: 0, place: 0 },
-    Refusal::Missing { month: 0, place: 0 },
-    Refusal::MonthBilled { month: 0 },
-    Refusal::MonthOpen { month: 0 },
-    Refusal::EarlierMonth { month: 0, place: 0 },
-    Refusal::LinePastLimit {
-        month: 0,
-        fault: Fault {
-            line: Line::SystemDemand,
-            rider: None,
-        },
-    },
-    Refusal::LedgerFull { month: 0, place: 0 },
-    Refusal::MonthDue { month: 0, place: 0 },
-    Refusal::FigureOutside { place: 0 },
-    Refusal::TooFewBytes,
-];
+use tariff::Refusal;
 
 /// The meaning of the refusals that have a number; none where no refusal has it.
 pub(crate) fn meaning_of(number: u8) -> Option<&'static str> {
-    let kind = KINDS.iter().find(|kind| kind.numbers().number == number);
+    let kind = Refusal::KINDS
+        .iter()
+        .find(|kind| kind.numbers().number == number);
     kind.map(meaning)
 }
 
@@ -103,10 +76,12 @@ mod tests {
 
     #[test]
     fn each_number_of_the_table_has_a_meaning(rt: HostRuntime) {
-        for number in 1..=19 {
-            assert!(rt; meaning_of(number).is_some());
+        for (i, kind) in Refusal::KINDS.iter().enumerate() {
+            let number = kind.numbers().number;
+            assert_eq!(rt; usize::from(number), i + 1);
+            assert_eq!(rt; meaning_of(number), Some(meaning(kind)));
         }
         assert!(rt; meaning_of(0).is_none());
-        assert!(rt; meaning_of(20).is_none());
+        assert!(rt; meaning_of(Refusal::KINDS.len() as u8 + 1).is_none());
     }
 }

@@ -10,14 +10,14 @@ use std::io::Write;
 use store::MOST_MONTHS;
 
 // Four years, and as many true-ups as such years have.
-const USUAL_MONTHS: u32 = MOST_MONTHS as u32;
+pub(crate) const USUAL_MONTHS: u32 = MOST_MONTHS as u32;
 
-const USUAL_ENTRIES: u32 = 2000;
+pub(crate) const USUAL_ENTRIES: u32 = 2000;
 
 // What stands before the book's first call: how many months and entries there is room for, and what
 // prices.
 #[derive(Drop)]
-struct Beginning {
+struct Setup {
     months: u32,
     entries: u32,
     schedule: ChosenSchedule,
@@ -52,25 +52,25 @@ fn call(alloc: Global, number: usize, line: &str) -> Result<Option<Call<'_>>> {
 fn begin<W: Write>(
     surroundings: Surroundings<'_>,
     lines: &[&str],
-    beginning: &mut Beginning,
+    setup: &mut Setup,
     notice: &mut Notice,
     out: &mut W,
 ) -> Result<usize> {
     let alloc = surroundings.rt.alloc();
     for (i, line) in lines.iter().enumerate() {
-        let schedule = &mut beginning.schedule;
+        let schedule = &mut setup.schedule;
         match call(alloc, i + 1, line)? {
             None => {}
             Some(Call::Memory { months, entries }) => {
-                beginning.months = months;
-                beginning.entries = entries;
+                setup.months = months;
+                setup.entries = entries;
                 writeln!(out, "ok")?;
             }
             Some(Call::Rate(rate)) => write_chosen(out, schedule.begin(alloc, rate))?,
-            Some(Call::Rider(rider)) => write_chosen(out, schedule.lay(rider))?,
+            Some(Call::Rider(rider)) => write_chosen(out, schedule.add_rider(rider))?,
             Some(_) => return Ok(i),
         }
-        notice.give(surroundings.rt, beginning.schedule.has_changed(), i + 1)?;
+        notice.give(surroundings.rt, setup.schedule.has_changed(), i + 1)?;
     }
     Ok(lines.len())
 }
@@ -101,18 +101,18 @@ pub(crate) fn run<W: Write>(
 ) -> Result<()> {
     let alloc = surroundings.rt.alloc();
     let lines = journal.lines().collect::<Vec<&str>>(alloc)?;
-    let mut beginning = Beginning {
+    let mut setup = Setup {
         months: USUAL_MONTHS,
         entries: USUAL_ENTRIES,
-        schedule: ChosenSchedule::usual(alloc)?,
+        schedule: ChosenSchedule::published_dts(alloc)?,
     };
     let mut notice = Notice { given: false };
-    let begun = begin(surroundings, &lines, &mut beginning, &mut notice, out)?;
-    let Beginning {
+    let begun = begin(surroundings, &lines, &mut setup, &mut notice, out)?;
+    let Setup {
         months,
         entries,
         schedule,
-    } = beginning;
+    } = setup;
     let mut memory = BookMemory::new(alloc, months, entries as usize)?;
     let mut desk = Desk::new(memory.book(), schedule);
     go_on(surroundings, &lines, begun, &mut desk, &mut notice, out)

@@ -17,7 +17,7 @@ pub(crate) struct ChosenSchedule {
 
 impl ChosenSchedule {
     /// DTS at its published figures until a line says otherwise.
-    pub(crate) fn usual(alloc: Global) -> Result<ChosenSchedule, Refusal> {
+    pub(crate) fn published_dts(alloc: Global) -> Result<ChosenSchedule, Refusal> {
         Ok(ChosenSchedule {
             pile: Pile::new(alloc, RateSheet::try_from(RateDraft::Dts(DTS_2007))?),
             begun: false,
@@ -35,7 +35,7 @@ impl ChosenSchedule {
     }
 
     /// One rider more, over those that are there.
-    pub(crate) fn lay(&mut self, rider: RiderDraft) -> Result<(), PileError> {
+    pub(crate) fn add_rider(&mut self, rider: RiderDraft) -> Result<(), PileError> {
         self.pile.pile(RiderSheet::try_from(rider)?)?;
         self.changed = self.changed || self.in_use;
         self.begun = true;

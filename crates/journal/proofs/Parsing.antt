@@ -10,7 +10,7 @@ use Rattle.std.proofs.lemmas.Int.{ints}
 use Rattle.std.proofs.lemmas.Str.Parse.{IsNumeralModel, numerals_by_value, tells_all_ascii_digits}
 use Rattle.std.specs.List.{position_or_len}
 use Rattle.std.proofs.lemmas.Str.Pattern.{IsSplitOnceResult, split_once_first}
-use Rattle.journal.specs.Tokens.{are_digits, cut_of, figure_of, number_of}
+use Rattle.journal.specs.Tokens.{are_digits, cut_of, parsed_figure, parsed_number}
 
 own : IsNumeralModel (λ ds. all_ascii_digits ds ≡ true) (digits_value 10)
 own = numerals_by_value _ tells_all_ascii_digits
@@ -25,8 +25,8 @@ ok_where (Err e) x true decides lacks = absurd (lacks (decides.0 refl))
 ok_where (Err e) x false decides lacks = refl
 
 pub parse_number : {E : Type 0} (word : List ℕ) (r : Result ℕ E) → ParsesUnsigned 32 10 word r
-    → result_ok r ≡ number_of word
-unfolding number_of
+    → result_ok r ≡ parsed_number word
+unfolding parsed_number
 parse_number word r parses =
     let digits = without_leading_plus word in
     let fits = Decides-ltb (digits_value 10 digits) (2 ^ 32) in
@@ -41,8 +41,8 @@ figure_fits false value =
     (λ yes. omega (arith, ints, leb-true _ _ yes), λ fits. le-leb _ _ (omega (arith, ints, fits)))
 
 pub parse_figure : {E : Type 0} (word : List ℕ) (r : Result ℤ E) → ParsesSigned w64 10 word r
-    → result_ok r ≡ figure_of word
-unfolding figure_of
+    → result_ok r ≡ parsed_figure word
+unfolding parsed_figure
 parse_figure word r parses =
     let digits = without_leading_sign word in
     let fits = figure_fits (starts_with_minus word) (digits_value 10 digits) in

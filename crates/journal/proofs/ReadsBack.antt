@@ -12,7 +12,7 @@ use Rattle.std.proofs.lemmas.Int.{ints}
 use Rattle.std.proofs.lemmas.List.{map-append}
 use Rattle.std.proofs.lemmas.Str.Parse.{digit_from_value, without_leading_plus_none}
 use Rattle.store.specs.declared.post.Reading.{Reading}
-use Rattle.journal.specs.Tokens.{cut_of, figure_of, number_of, reading_between, reading_of, reading_text, values_of}
+use Rattle.journal.specs.Tokens.{cut_of, parsed_figure, parsed_number, reading_between, parsed_reading, reading_text, parsed_values}
 use Rattle.journal.specs.Words.{are_words, is_plain, is_word, words_text}
 use Rattle.journal.proofs.Parsing.{parse_figure, parse_number}
 
@@ -53,7 +53,7 @@ no_minus ds numeral = let range = first_digit ds numeral in grind (arith, nat_te
 pub number_word : (n : ℕ) → n < 2 ^ 32 → is_word (decimal n) ≡ true
 number_word n small = numeral_word (decimal n) (decimal_is_IsNumeral n (omega arith)).0
 
-pub number_again : (n : ℕ) → n < 2 ^ 32 → number_of (decimal n) ≡ Some n
+pub number_again : (n : ℕ) → n < 2 ^ 32 → parsed_number (decimal n) ≡ Some n
 number_again n small =
     let (numeral, value) = decimal_is_IsNumeral n (omega arith) in
     sym (parse_number {E = Unit {0}} (decimal n) (Ok n)
@@ -65,7 +65,7 @@ figure_word (negsuc n) fits =
     let numeral = (decimal_is_IsNumeral (suc n) (omega (arith, ints, fits))).0 in
     word_of (45 ∷ decimal (suc n)) (omega arith) (digits_plain (decimal (suc n)) numeral.1)
 
-pub figure_again : (z : ℤ) → SFits w64 z → figure_of (signed_decimal z) ≡ Some z
+pub figure_again : (z : ℤ) → SFits w64 z → parsed_figure (signed_decimal z) ≡ Some z
 figure_again (pos n) fits =
     let (numeral, value) = decimal_is_IsNumeral n (omega (arith, ints, fits)) in
     sym (parse_figure {E = Unit {0}} (decimal n) (Ok (pos n))
@@ -143,7 +143,7 @@ reading_word reading kw kva =
     (digits_plain _ second_digits))
 
 pub reading_again : (reading : Reading) → reading.kw < 2 ^ 32 → reading.kva < 2 ^ 32
-    → reading_of (reading_text reading) ≡ Some reading
+    → parsed_reading (reading_text reading) ≡ Some reading
 unfolding reading_between
 reading_again reading kw kva =
     let none = no_slash (decimal reading.kw) (decimal_is_IsNumeral reading.kw (omega arith)).0.1 in
@@ -154,7 +154,7 @@ reading_again reading kw kva =
 abbrev pub ReadsBack : {X : Type 0} → (List ℕ → Option X) → (X → List ℕ) → List X → Type 0
 ReadsBack parse text front =
     (rest : List (List ℕ))
-    → (values_of parse (map text front ++ rest) ≡ option_map (λ more. front ++ more) (values_of parse rest))
+    → (parsed_values parse (map text front ++ rest) ≡ option_map (λ more. front ++ more) (parsed_values parse rest))
     × (are_words (map text front ++ rest) ≡ are_words rest)
 
 module _ {X : Type 0} (parse : List ℕ → Option X) (text : X → List ℕ) where
@@ -163,7 +163,7 @@ module _ {X : Type 0} (parse : List ℕ → Option X) (text : X → List ℕ) wh
   onto_none (Some more) = refl
 
   pub ReadsBack-none : ReadsBack parse text []
-  ReadsBack-none rest = (onto_none (values_of parse rest), refl)
+  ReadsBack-none rest = (onto_none (parsed_values parse rest), refl)
 
   onto_more : (front : List X) (x : X) (r : Option (List X))
       → option_map (λ more. front ++ more) (option_map (λ more. x ∷ more) r)
@@ -179,19 +179,19 @@ module _ {X : Type 0} (parse : List ℕ → Option X) (text : X → List ℕ) wh
       ∙ append_assoc (map text front) (text x ∷ []) rest in
       let fact = again (text x ∷ rest) in
       let head =
-      ap (λ o. option_and_then (λ item. option_map (λ items. item ∷ items) (values_of parse rest)) o)
+      ap (λ o. option_and_then (λ item. option_map (λ items. item ∷ items) (parsed_values parse rest)) o)
       parsed in (
-        ap (values_of parse) shifted ∙ fact.0 ∙ ap (option_map (λ more. front ++ more)) head
-            ∙ onto_more front x (values_of parse rest),
+        ap (parsed_values parse) shifted ∙ fact.0 ∙ ap (option_map (λ more. front ++ more)) head
+            ∙ onto_more front x (parsed_values parse rest),
         ap are_words shifted ∙ fact.1 ∙ ap (λ b. b && are_words rest) word,
       )
 
   pub ReadsBack-all : (front : List X) → ReadsBack parse text front
-      → (are_words (map text front) ≡ true) × (values_of parse (map text front) ≡ Some front)
+      → (are_words (map text front) ≡ true) × (parsed_values parse (map text front) ≡ Some front)
   ReadsBack-all front again =
       let all = again [] in
       let whole = sym (append-nil (map text front)) in
-      (ap are_words whole ∙ all.1, ap (values_of parse) whole ∙ all.0 ∙ ap Some (append-nil front))
+      (ap are_words whole ∙ all.1, ap (parsed_values parse) whole ∙ all.0 ∙ ap Some (append-nil front))
 
 -- the text of words, and of one more
 pub words_text_more : (words : List (List ℕ)) (word : List ℕ)

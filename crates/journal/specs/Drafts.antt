@@ -12,7 +12,7 @@ use Rattle.piles.specs.declared.rate.RateKind.TheVariants.{Dts, Gts, Xts, Dos, S
 use Rattle.piles.specs.declared.rider.RiderDraft.{RiderDraft}
 use Rattle.piles.specs.declared.rider.RiderKind.{RiderKind}
 use Rattle.piles.specs.declared.rider.RiderKind.TheVariants.{Energy, Percent, Credit}
-use Rattle.journal.specs.Tokens.{figure_of, values_of}
+use Rattle.journal.specs.Tokens.{parsed_figure, parsed_values}
 use Rattle.journal.specs.Words.{◌>>=◌, first_word}
 
 -- the words that name kinds
@@ -73,7 +73,7 @@ abbrev pub draft_of : {K D : Type 0} → (List ℕ → Option K) → (K → OwnF
 draft_of named own published figures from_figures words = do
   name ← first_word words
   kind ← named name.0
-  given ← values_of figure_of name.1
+  given ← parsed_values parsed_figure name.1
   draft_of_figures own published figures from_figures kind given
 
 -- the words that write a draft

@@ -1,5 +1,5 @@
 -- A call written as a line: the words that write it, and the text that they make.
-use Rattle.std.specs.Prelude.{◌≡◌, ℕ, ◌++◌, true, List, [], ◌∷◌, map, decimal}
+use Rattle.std.specs.Prelude.{ℕ, ◌++◌, List, [], ◌∷◌, map, IsTrue, decimal, ⊤}
 use Rattle.store.specs.declared.post.Post.TheVariants.{Reading as AReading, Price as APrice, Scheduled as AScheduled}
 use Rattle.journal.specs.Drafts.{rate_words, rider_words}
 use Rattle.journal.specs.PostKinds.{kind_word}
@@ -50,7 +50,7 @@ line_text call = verb_word (parts_of call).0 ++ words_text (parts_of call).1
 
 -- what a call names by a text stands in its line as one word
 abbrev pub IsWritable : Call → Type 0
-IsWritable (TheOpen code contract substation carried) = is_word code.now ≡ true
-IsWritable (ThePostDay month day code readings) = is_word code.now ≡ true
-IsWritable (TheLoad kind month file) = is_word file.now ≡ true
-IsWritable call = Unit {0}
+IsWritable (TheOpen code contract substation carried) = IsTrue (is_word code.now)
+IsWritable (ThePostDay month day code readings) = IsTrue (is_word code.now)
+IsWritable (TheLoad kind month file) = IsTrue (is_word file.now)
+IsWritable call = ⊤

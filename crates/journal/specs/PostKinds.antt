@@ -3,8 +3,8 @@ use Rattle.std.specs.Prelude.{ℕ, if◌then◌else◌, List, [], ◌∷◌, Opt
 use Rattle.std.specs.Option.{option_map}
 use Rattle.store.specs.declared.post.Post.{Post}
 use Rattle.store.specs.declared.post.Post.TheVariants.{Reading as TheReading, Price as ThePrice, Scheduled as TheScheduled}
-use Rattle.journal.specs.Tokens.{cut_of, number_of, reading_between}
-use Rattle.journal.specs.Words.{◌>>=◌}
+use Rattle.journal.specs.Tokens.{cut_of, parsed_number, reading_between}
+use Rattle.journal.specs.Words.{◌>>=◌, comma}
 use Rattle.journal.specs.declared.parse_error.ParseError.{ParseError}
 use Rattle.journal.specs.declared.parse_error.ParseError.TheVariants.{NoPost}
 use Rattle.journal.specs.declared.post_kind.PostKind.{PostKind}
@@ -30,25 +30,25 @@ post_form Price = codes "HOUR,CENTS"
 post_form Scheduled = codes "HOUR,KW"
 
 -- the post after its place
-abbrev pub value_of : PostKind → List ℕ → Option Post
-value_of Reading text = option_map TheReading (reading_between 44 text)
-value_of Price text = option_map ThePrice (number_of text)
-value_of Scheduled text = option_map TheScheduled (number_of text)
+abbrev pub post_after : PostKind → List ℕ → Option Post
+post_after Reading text = option_map TheReading (reading_between comma text)
+post_after Price text = option_map ThePrice (parsed_number text)
+post_after Scheduled text = option_map TheScheduled (parsed_number text)
 
 -- a place, a comma, and the post
 unfoldable pub post_of : PostKind → List ℕ → Option (ℕ × Post)
 post_of kind word = do
-  parts ← cut_of 44 word
-  place ← number_of parts.0
-  post ← value_of kind parts.1
+  parts ← cut_of comma word
+  place ← parsed_number parts.0
+  post ← post_after kind parts.1
   Some (place, post)
 
-abbrev pub or_no_post : PostKind → Option (ℕ × Post) → Result (Option (ℕ × Post)) ParseError
-or_no_post kind None = Err (NoPost kind)
-or_no_post kind (Some post) = Ok (Some post)
+abbrev pub post_result : PostKind → Option (ℕ × Post) → Result (Option (ℕ × Post)) ParseError
+post_result kind None = Err (NoPost kind)
+post_result kind (Some post) = Ok (Some post)
 
 -- what a line of these words is in such a file: a post in one word, or nothing where there is no word
 abbrev pub post_line : PostKind → List (List ℕ) → Result (Option (ℕ × Post)) ParseError
 post_line kind [] = Ok None
-post_line kind (word ∷ []) = or_no_post kind (post_of kind word)
+post_line kind (word ∷ []) = post_result kind (post_of kind word)
 post_line kind (word ∷ another ∷ words) = Err (NoPost kind)

@@ -5,29 +5,29 @@ use Rattle.std.specs.Option.{option_and_then, option_map}
 use Rattle.std.specs.Str.{all_ascii_digits}
 use Rattle.std.specs.Str.Parse.{digits_value, signed_digits_value, starts_with_minus, without_leading_plus, without_leading_sign}
 use Rattle.store.specs.declared.post.Reading.{Reading}
-use Rattle.journal.specs.Words.{◌>>=◌}
+use Rattle.journal.specs.Words.{◌>>=◌, slash}
 
 -- digits, one or more
 abbrev pub are_digits : List ℕ → Bool
 are_digits digits = nat_lt 0 (length digits) && all_ascii_digits digits
 
 -- a number: digits, which a plus may lead, and 32 bits hold what they write
-unfoldable pub number_of : List ℕ → Option ℕ
-number_of word =
+unfoldable pub parsed_number : List ℕ → Option ℕ
+parsed_number word =
     let digits = without_leading_plus word in
     if are_digits digits && nat_lt (digits_value 10 digits) (2 ^ 32)
     then Some (digits_value 10 digits)
     else None
 
 -- the most that the digits of a figure may write: 64 bits hold it with its sign
-abbrev pub most_figure : List ℕ → ℕ
-most_figure word = if starts_with_minus word then 2 ^ 63 else 2 ^ 63 - 1
+abbrev pub most_parsed_figure : List ℕ → ℕ
+most_parsed_figure word = if starts_with_minus word then 2 ^ 63 else 2 ^ 63 - 1
 
 -- a figure: the same with a minus too
-unfoldable pub figure_of : List ℕ → Option ℤ
-figure_of word =
+unfoldable pub parsed_figure : List ℕ → Option ℤ
+parsed_figure word =
     let digits = without_leading_sign word in
-    if are_digits digits && nat_le (digits_value 10 digits) (most_figure word)
+    if are_digits digits && nat_le (digits_value 10 digits) (most_parsed_figure word)
     then Some (signed_digits_value 10 word)
     else None
 
@@ -43,19 +43,19 @@ cut_of byte text =
 unfoldable pub reading_between : ℕ → List ℕ → Option Reading
 reading_between separator text = do
   parts ← cut_of separator text
-  kw ← number_of parts.0
-  kva ← number_of parts.1
+  kw ← parsed_number parts.0
+  kva ← parsed_number parts.1
   Some (record { kw = kw; kva = kva })
 
 -- in a call, with a slash
-abbrev pub reading_of : List ℕ → Option Reading
-reading_of word = reading_between 47 word
+abbrev pub parsed_reading : List ℕ → Option Reading
+parsed_reading word = reading_between slash word
 
 abbrev pub reading_text : Reading → List ℕ
-reading_text reading = decimal reading.kw ++ (47 ∷ decimal reading.kva)
+reading_text reading = decimal reading.kw ++ (slash ∷ decimal reading.kva)
 
 -- what each word writes down, where all of them are such tokens
-abbrev pub values_of : {X : Type 0} → (List ℕ → Option X) → List (List ℕ) → Option (List X)
-values_of parse [] = Some []
-values_of parse (word ∷ words) =
-    option_and_then (λ item. option_map (λ items. item ∷ items) (values_of parse words)) (parse word)
+abbrev pub parsed_values : {X : Type 0} → (List ℕ → Option X) → List (List ℕ) → Option (List X)
+parsed_values parse [] = Some []
+parsed_values parse (word ∷ words) =
+    option_and_then (λ item. option_map (λ items. item ∷ items) (parsed_values parse words)) (parse word)

@@ -1,6 +1,7 @@
 -- The words that calls begin with.
 use Rattle.std.specs.Prelude.{ℕ, ◌==◌, List, Option, bytes_eq, codes, find}
 use Rattle.std.specs.List.{before_first}
+use Rattle.journal.specs.Words.{space}
 use Rattle.journal.specs.declared.verb.TheConstants.Verb.{ALL}
 use Rattle.journal.specs.declared.verb.Verb.{Verb}
 use Rattle.journal.specs.declared.verb.Verb.TheVariants.{Memory, Rate, Rider, Open, Start, Reading, Readings, Day, Price, Prices, Schedule, Schedules, Load, Bill, TrueUp, Finalise, Due, Total, Text, Ledger, Statement}
@@ -31,7 +32,7 @@ verb_form Statement = codes "statement MONTH"
 
 -- the form's first word
 unfoldable pub verb_word : Verb → List ℕ
-verb_word verb = before_first (λ byte. byte == 32) (verb_form verb)
+verb_word verb = before_first (λ byte. byte == space) (verb_form verb)
 
 -- the first of these verbs that has the word
 abbrev pub first_named : List ℕ → List Verb → Option Verb

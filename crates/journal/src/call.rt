@@ -1,7 +1,7 @@
 // The calls that a line can write down.
 ghost use Rattle.std.specs.Prelude.{◌≡◌, Some, Ok, IfOk, string_bytes};
 ghost use Rattle.journal.specs.LineText.{IsWritable, line_text, parts_of};
-ghost use Rattle.journal.specs.Lines.{parse_result, value_of};
+ghost use Rattle.journal.specs.Lines.{parse_result, call_value};
 ghost use Rattle.journal.specs.Words.{uncommented, words_of};
 
 use crate::line_text::write_words;
@@ -24,7 +24,8 @@ pub enum Call<'a> {
     Rate(RateDraft),
     /// A rider over what prices already.
     Rider(RiderDraft),
-    /// The point's code, its demands in kW, and the peaks of the months before, the latest first.
+    /// The point's code, its contract and its substation total, both in kW, and the peaks in kW of the
+    /// months before, the latest first.
     Open {
         code: &'a str,
         contract: u32,
@@ -61,12 +62,15 @@ pub enum Call<'a> {
         month: u32,
         file: &'a str,
     },
+    /// An entry for each line of the month's first pricing.
     Bill {
         month: u32,
     },
+    /// An entry for each line of a billed month that now prices otherwise.
     TrueUp {
         month: u32,
     },
+    /// A month to which nothing more is posted.
     Finalise {
         month: u32,
     },
@@ -145,7 +149,7 @@ impl Call<'_> {
         ensures text { IfOk result (λ line. string_bytes line ≡ line_text self.now) }
         ensures again { IfOk result (λ line. IsWritable self.now →
             parse_result (words_of (uncommented (string_bytes line)))
-            ≡ Ok (Some (value_of self.now))) }
+            ≡ Ok (Some (call_value self.now))) }
     {
         let mut line = String::from_str(alloc, self.verb().word())?;
         write_words(alloc, &mut line, self)?;

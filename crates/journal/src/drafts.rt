@@ -1,6 +1,6 @@
 // Rates and riders in words: the kind of a sheet, and its figures.
 ghost use Rattle.std.proofs.Common.{rules};
-ghost use Rattle.std.specs.Prelude.{◌≡◌, ◌+◌, ◌++◌, ◌≤◌, ℕ, List, ℤ, Option, Some, true, length, IfOk, OnOk, string_bytes};
+ghost use Rattle.std.specs.Prelude.{◌≡◌, ◌+◌, ◌++◌, ◌≤◌, ℕ, List, ℤ, Option, Some, length, IfOk, IsTrue, OnOk, string_bytes};
 ghost use Rattle.tariff.specs.Sheets.{figure_list, values_of};
 ghost use Rattle.journal.specs.Drafts.{complete_figures, draft_of, draft_words, line_order, rate_named, rate_word, rider_named, rider_word};
 ghost use Rattle.journal.specs.Words.{are_words, is_word, words_of, words_text};
@@ -23,7 +23,7 @@ pub(crate) trait NamedKind: SheetKind {
 
     fn word(self) -> &'static str
         ensures word { result.now ≡ word self }
-        ensures whole { is_word (word self) ≡ true }
+        ensures whole { IsTrue (is_word (word self)) }
         ensures again { named (word self) ≡ Some self };
 
     // the customer's own figures are among those of the sheet
@@ -162,7 +162,7 @@ pub(crate) fn write_draft<K: NamedKind>(
         string_bytes line.new ≡ string_bytes line.old
         ++ words_text (draft_words K.word K.kind_of K.own K.figures draft.now)) }
     ensures words { OnOk result (
-        are_words (draft_words K.word K.kind_of K.own K.figures draft.now) ≡ true) }
+        IsTrue (are_words (draft_words K.word K.kind_of K.own K.figures draft.now))) }
     ensures again { OnOk result (
         draft_of K.named K.own K.published K.figures K.from_figures
         (draft_words K.word K.kind_of K.own K.figures draft.now) ≡ Some draft.now) }

@@ -1,7 +1,7 @@
 // The words of a call, written.
-ghost use Rattle.std.specs.Prelude.{◌≡◌, ◌++◌, true, [], ◌∷◌, Some, OnOk, string_bytes};
+ghost use Rattle.std.specs.Prelude.{◌≡◌, ◌++◌, [], ◌∷◌, Some, IsTrue, OnOk, string_bytes};
 ghost use Rattle.journal.specs.LineText.{IsWritable, parts_of};
-ghost use Rattle.journal.specs.Lines.{call_of, value_of};
+ghost use Rattle.journal.specs.Lines.{call_of_verb, call_value};
 ghost use Rattle.journal.specs.Words.{are_words, words_text};
 
 use crate::call::Call;
@@ -27,9 +27,9 @@ pub(crate) fn write_words(
 ) -> Result<(), AllocError>
     ensures written { OnOk result (
         string_bytes line.new ≡ string_bytes line.old ++ words_text (parts_of call.now).1) }
-    ensures words { OnOk result (IsWritable call.now → are_words (parts_of call.now).1 ≡ true) }
+    ensures words { OnOk result (IsWritable call.now → IsTrue (are_words (parts_of call.now).1)) }
     ensures again { OnOk result (
-        call_of (parts_of call.now).0 (parts_of call.now).1 ≡ Some (value_of call.now)) }
+        call_of_verb (parts_of call.now).0 (parts_of call.now).1 ≡ Some (call_value call.now)) }
 {
     match call {
         Call::Memory { months, entries } => write_all(line, &[*months, *entries]),

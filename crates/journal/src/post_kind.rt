@@ -1,7 +1,7 @@
 // What a file that is loaded holds, and a line of it.
 ghost use Rattle.std.specs.Prelude.{◌≡◌};
-ghost use Rattle.journal.specs.PostKinds.{kind_named, kind_word, post_form, post_line, post_of, value_of};
-ghost use Rattle.journal.specs.Tokens.{number_of};
+ghost use Rattle.journal.specs.PostKinds.{kind_named, kind_word, post_form, post_line, post_of, post_after};
+ghost use Rattle.journal.specs.Tokens.{parsed_number};
 ghost use Rattle.journal.specs.Words.{uncommented, words_of};
 
 use crate::parse_error::ParseError;
@@ -12,8 +12,11 @@ use store::Post;
 /// What a file that is loaded holds, line by line.
 #[derive(Clone, Copy, PartialEq, Eq, Debug)]
 pub enum PostKind {
+    /// Readings of quarters, in kW and kVA.
     Reading,
+    /// Pool prices of hours, in cents per MWh.
     Price,
+    /// Scheduled kW of hours.
     Scheduled,
 }
 
@@ -54,7 +57,7 @@ impl PostKind {
 
     // The post that stands after its place.
     fn value(self, text: &str) -> Option<Post>
-        ensures { result ≡ value_of self text.now }
+        ensures { result ≡ post_after self text.now }
     {
         Some(match self {
             PostKind::Reading => Post::Reading(reading_between(text, ',')?),

@@ -1,7 +1,7 @@
 // A line read as the call that it writes down.
 ghost use Rattle.std.specs.Prelude.{◌≡◌, Option, Some, None, IfOk, MatchOption};
 ghost use Rattle.std.specs.Option.{option_map};
-ghost use Rattle.journal.specs.Lines.{Gives, call_of, first_number, load_of, open_of, parse_result, post_day_of, value_of};
+ghost use Rattle.journal.specs.Lines.{Gives, call_of_verb, first_number, load_of, open_of, parse_result, post_day_of, call_value};
 ghost use Rattle.journal.specs.Words.{uncommented, words_of};
 
 use crate::call::Call;
@@ -28,7 +28,7 @@ fn next_number(text: &str) -> Option<(u32, &str)>
 
 // The call `open`, by the text after its verb.
 fn open_of(alloc: Global, text: &str) -> Result<Option<Call<'_>>, AllocError>
-    ensures { IfOk result (λ call. option_map value_of call ≡ open_of (words_of text.now)) }
+    ensures { IfOk result (λ call. option_map call_value call ≡ open_of (words_of text.now)) }
 {
     let Some((code, text)) = next_word(text) else {
         return Ok(None);
@@ -52,7 +52,7 @@ fn open_of(alloc: Global, text: &str) -> Result<Option<Call<'_>>, AllocError>
 
 // The call `day`.
 fn post_day_of(alloc: Global, text: &str) -> Result<Option<Call<'_>>, AllocError>
-    ensures { IfOk result (λ call. option_map value_of call ≡ post_day_of (words_of text.now)) }
+    ensures { IfOk result (λ call. option_map call_value call ≡ post_day_of (words_of text.now)) }
 {
     let Some((month, text)) = next_number(text) else {
         return Ok(None);
@@ -76,7 +76,7 @@ fn post_day_of(alloc: Global, text: &str) -> Result<Option<Call<'_>>, AllocError
 
 // The call `load`.
 fn load_of(text: &str) -> Option<Call<'_>>
-    ensures { option_map value_of result ≡ load_of (words_of text.now) }
+    ensures { option_map call_value result ≡ load_of (words_of text.now) }
 {
     let (word, text) = next_word(text)?;
     let kind = PostKind::named(word)?;
@@ -89,8 +89,8 @@ fn load_of(text: &str) -> Option<Call<'_>>
 }
 
 // The call of a verb, by the text after it.
-fn call_of(alloc: Global, verb: Verb, text: &str) -> Result<Option<Call<'_>>, AllocError>
-    ensures { IfOk result (λ call. option_map value_of call ≡ call_of verb (words_of text.now)) }
+fn call_of_verb(alloc: Global, verb: Verb, text: &str) -> Result<Option<Call<'_>>, AllocError>
+    ensures { IfOk result (λ call. option_map call_value call ≡ call_of_verb verb (words_of text.now)) }
 {
     match verb {
         Verb::Rate => match parse_draft::<RateKind>(alloc, text)? {
@@ -122,7 +122,7 @@ pub fn read(alloc: Global, line: &str) -> Result<Option<Call<'_>>, ParseError>
     let Some(verb) = Verb::named(name) else {
         return Err(ParseError::NoCall);
     };
-    match call_of(alloc, verb, text)? {
+    match call_of_verb(alloc, verb, text)? {
         Some(call) => Ok(Some(call)),
         None => Err(ParseError::Expected(verb)),
     }

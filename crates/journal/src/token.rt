@@ -1,8 +1,8 @@
 // What one word of a line can write down: a number, a figure, a reading.
-ghost use Rattle.std.specs.Prelude.{◌≡◌, ◌<◌, ℕ, ◌++◌, true, List, [], ◌∷◌, map, Option, Some, IfOk, OnOk, decimal, string_bytes};
+ghost use Rattle.std.specs.Prelude.{◌≡◌, ◌<◌, ℕ, ◌++◌, List, [], ◌∷◌, map, Option, Some, IfOk, IsTrue, OnOk, decimal, string_bytes};
 ghost use Rattle.std.specs.Fmt.{signed_decimal};
 ghost use Rattle.std.specs.Option.{option_map};
-ghost use Rattle.journal.specs.Tokens.{figure_of, number_of, reading_between, reading_of, reading_text, values_of};
+ghost use Rattle.journal.specs.Tokens.{parsed_figure, parsed_number, reading_between, parsed_reading, reading_text, parsed_values};
 ghost use Rattle.journal.specs.Words.{are_words, is_word, words_of, words_text};
 
 use crate::words::next_word;
@@ -22,12 +22,12 @@ pub(crate) trait Token: Drop {
     fn write(&self, line: &mut String) -> Result<(), AllocError>
         ensures written { OnOk result (
             string_bytes line.new ≡ string_bytes line.old ++ words_text (text self.now ∷ [])) }
-        ensures word { OnOk result (is_word (text self.now) ≡ true) }
+        ensures word { OnOk result (IsTrue (is_word (text self.now))) }
         ensures again { OnOk result (parse (text self.now) ≡ Some self.now) };
 }
 
 impl Token for u32 {
-    ghost parse = { number_of };
+    ghost parse = { parsed_number };
 
     ghost text = { decimal };
 
@@ -42,7 +42,7 @@ impl Token for u32 {
 }
 
 impl Token for i64 {
-    ghost parse = { figure_of };
+    ghost parse = { parsed_figure };
 
     ghost text = { signed_decimal };
 
@@ -68,7 +68,7 @@ pub(crate) fn reading_between(text: &str, separator: char) -> Option<Reading>
 }
 
 impl Token for Reading {
-    ghost parse = { reading_of };
+    ghost parse = { parsed_reading };
 
     ghost text = { reading_text };
 
@@ -85,7 +85,7 @@ impl Token for Reading {
 // What all the words of a text write down; none where one of them is no such token.
 pub(crate) fn parse_all<T: Token>(alloc: Global, text: &str) -> Result<Option<Vec<T>>, AllocError>
     ensures { IfOk result (λ found.
-        option_map (λ items. items.items) found ≡ values_of T.parse (words_of text.now)) }
+        option_map (λ items. items.items) found ≡ parsed_values T.parse (words_of text.now)) }
 {
     let mut items = Vec::new(alloc);
     let mut left = text;
@@ -103,8 +103,8 @@ pub(crate) fn parse_all<T: Token>(alloc: Global, text: &str) -> Result<Option<Ve
 pub(crate) fn write_all<T: Token>(line: &mut String, items: &[T]) -> Result<(), AllocError>
     ensures written { OnOk result (
         string_bytes line.new ≡ string_bytes line.old ++ words_text (map T.text items.now)) }
-    ensures words { OnOk result (are_words (map T.text items.now) ≡ true) }
-    ensures again { OnOk result (values_of T.parse (map T.text items.now) ≡ Some items.now) }
+    ensures words { OnOk result (IsTrue (are_words (map T.text items.now))) }
+    ensures again { OnOk result (parsed_values T.parse (map T.text items.now) ≡ Some items.now) }
 {
     for item in items {
         item.write(line)?;

@@ -5,26 +5,47 @@ ghost use Rattle.journal.specs.Verbs.{first_named, verb_form, verb_named, verb_w
 /// The word that a call begins with.
 #[derive(Clone, Copy, PartialEq, Eq, Debug)]
 pub enum Verb {
+    /// How many months and entries the book has room for.
     Memory,
+    /// The rate that prices.
     Rate,
+    /// A rider over what prices already.
     Rider,
+    /// The point, and what it brings from the months before.
     Open,
+    /// One month more, of so many days.
     Start,
+    /// One quarter's reading, in kW and kVA.
     Reading,
+    /// The same reading for each quarter of a range.
     Readings,
+    /// A day's readings, quarter by quarter.
     Day,
+    /// One hour's pool price, in cents per MWh.
     Price,
+    /// The same price for each hour of a range.
     Prices,
+    /// One hour's scheduled kW.
     Schedule,
+    /// The same scheduled kW for each hour of a range.
     Schedules,
+    /// The posts of a file.
     Load,
+    /// A month's first entries, one for each line.
     Bill,
+    /// An entry for each line of a month that now prices otherwise.
     TrueUp,
+    /// Nothing more is posted to the month.
     Finalise,
+    /// Whether pricing the month now would alter a line.
     Due,
+    /// What a month's entries for a line come to, in cents.
     Total,
+    /// One entry of the ledger.
     Text,
+    /// All entries of the ledger.
     Ledger,
+    /// A month for people, in dollars and cents.
     Statement,
 }
 

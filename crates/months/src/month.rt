@@ -34,7 +34,7 @@ fn read_facts(words: &[&str]) -> Result<PlainFacts> {
 }
 
 // How many hours, and one of them.
-fn read_alike(word: &str) -> Result<(u16, HourRow)> {
+fn read_hours_word(word: &str) -> Result<(u16, HourRow)> {
     let (count, hour) = word.split_once('x').context("hours are COUNTx..")?;
     let (energy, hour) = hour.split_once('@').context("an hour is ENERGY@PRICE")?;
     let (price, scheduled) = hour.split_once('/').unwrap_or((hour, "0"));
@@ -49,7 +49,7 @@ fn read_alike(word: &str) -> Result<(u16, HourRow)> {
 fn read_hours(alloc: Global, text: &str) -> Result<Vec<HourRow>> {
     let mut hours = Vec::new(alloc);
     for word in text.split_whitespace() {
-        let (count, row) = read_alike(word)?;
+        let (count, row) = read_hours_word(word)?;
         for _ in 0..count {
             hours.push(row)?;
         }

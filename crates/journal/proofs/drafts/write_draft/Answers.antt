@@ -5,7 +5,7 @@ use Rattle.std.proofs.lemmas.Grind.{common_steps}
 use Rattle.tariff.specs.Sheets.{values_of as figure_values}
 use Rattle.tariff.specs.declared.figure.Figure.{Figure}
 use Rattle.journal.specs.Drafts.{complete_figures, line_order, sheet_order}
-use Rattle.journal.specs.Tokens.{figure_of, values_of}
+use Rattle.journal.specs.Tokens.{parsed_figure, parsed_values}
 use Rattle.journal.proofs.LineOrder.{figures_again}
 use Rattle.journal.proofs.drafts.write_draft.Goals as goal
 
@@ -21,7 +21,7 @@ returns-clause-again g c =
     let back = g.met.K.SheetKind.read_back draft in
     let named : g.K.NamedKind.named (g.K.NamedKind.word kind) ≡ Some kind =
     rw (c.of-kind.ensures) at c.word.ensures.again in
-    let parsed : values_of figure_of (map signed_decimal (line_order own figures))
+    let parsed : parsed_values parsed_figure (map signed_decimal (line_order own figures))
     ≡ Some (line_order own figures) =
     grind (arith, common_steps, c.in_ok-write_all.ensures.again) in
     let some : IsSome (g.K.SheetKind.from_figures kind figures) = rw back refl in

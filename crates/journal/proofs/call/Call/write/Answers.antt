@@ -1,6 +1,6 @@
 use Rattle.std.proofs.Common.{◌≡◌, ◌++◌, string_bytes, ap, ◌∙◌}
 use Rattle.journal.specs.LineText.{line_text, parts_of}
-use Rattle.journal.specs.Lines.{by_verb, or_error, parse_result}
+use Rattle.journal.specs.Lines.{verb_result, call_result, parse_result}
 use Rattle.journal.specs.Verbs.{verb_word}
 use Rattle.journal.specs.Words.{uncommented, words_of, words_text}
 use Rattle.journal.specs.declared.parse_error.ParseError.TheVariants.{Expected}
@@ -21,5 +21,5 @@ returns-clause-again c writable =
     ∙ ap (λ t. parse_result (words_of t))
     (text_uncommented (verb_word verb) words (verb_is_word verb) (after.words writable))
     ∙ ap parse_result (text_words (verb_word verb) words (verb_is_word verb) (after.words writable))
-    ∙ ap (λ v. by_verb v words) (verb_again verb)
-    ∙ ap (or_error (Expected verb)) after.again
+    ∙ ap (λ v. verb_result v words) (verb_again verb)
+    ∙ ap (call_result (Expected verb)) after.again
