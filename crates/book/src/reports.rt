@@ -8,7 +8,7 @@ use store::State;
 use tariff::{Facts, LINES, Refusal, Schedule};
 
 /// A month on file, as it stands.
-#[derive(Clone, Copy)]
+#[derive(Clone, Copy, PartialEq, Eq, Debug)]
 pub struct MonthOnFile {
     /// How many days it has, 28 to 31.
     pub days: u8,
