@@ -4,8 +4,8 @@ use piles::{Pile, PileError, RateSheet, RiderSheet};
 use std::alloc::Global;
 use tariff::{Amounts, Facts, HourList, price};
 
-/// Refused by the first of these that says no: facts, hours, the rate's sheet, the riders' from below, and then the
-/// pricing.
+/// Refused by the first of these that says no: facts, hours, the rate's sheet, the riders' from below,
+/// and then the pricing.
 pub(crate) fn price_month(alloc: Global, month: &Month) -> Result<Amounts, PileError> {
     let facts = Facts::new(month.facts)?;
     let hours = HourList::try_from(&month.hours[..])?;

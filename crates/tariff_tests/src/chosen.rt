@@ -111,7 +111,8 @@ fn a_chosen_pile_is_the_nested_riders(rt: HostRuntime) -> Result<(), Fail> {
     );
     let priced = plant_cents(&pile)?;
     assert_eq!(rt; priced, plant_cents(&nested)?);
-    // B × S is 8,100,000,000: the first three bands whole and 100,000,000 of the rest, so 2,511,933 and a third off
+    // B × S is 8,100,000,000: the first three bands whole and 100,000,000 of the rest, so
+    // 2,511,933 and a third off
     assert_eq!(rt; priced[Line::PrimaryServiceCredit.index()], -2_511_933);
     Ok(())
 }
@@ -142,7 +143,8 @@ fn riders_pile_upwards(rt: HostRuntime) -> Result<(), Fail> {
     Ok(())
 }
 
-// The third energy rider at the top rate passes the limit in a full month; its fault comes up through the fourth.
+// The third energy rider at the top rate passes the limit in a full month; its fault comes up through
+// the fourth.
 #[test]
 fn a_fault_names_its_rider(rt: HostRuntime) -> Result<(), Fail> {
     let sts = StsDraft::published_2009(0, 0);

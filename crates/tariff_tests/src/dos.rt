@@ -1,4 +1,5 @@
-// Rate DOS 7 Minutes: its sheet's limits and what it charges. The amounts are worked out by hand from the rate.
+// Rate DOS 7 Minutes: its sheet's limits and what it charges. The amounts are worked out by hand from
+// the rate.
 use crate::support::{HIGHEST, filled, idle_cents, limits, refused, refused_at};
 use rates::dos::DosDraft;
 use std::test::Fail;
