@@ -1,6 +1,6 @@
 -- What due and total answer of a billed month.
 use Rattle.std.proofs.Common.{◌≡◌, ℕ, ◌+◌, ◌-◌, ◌<◌, true, false, cond, leb, List, length, get_or, ℤ, pos, is_some, Some, None, Ok, Err, Decides, Option, sym, refl, ap, ◌∙◌, inl, inr, arith}
-use Rattle.std.proofs.lemmas.Bool.{and_from, cases_Bool, cond-false, le-leb, not_from_true}
+use Rattle.std.proofs.lemmas.Bool.{and_from, both_ways, cases_Bool, cond-false, le-leb, not_from_true}
 use Rattle.book.specs.Calls.{asks, whether_due, line_total}
 use Rattle.book.specs.Steps.{answer, reply_unless}
 use Rattle.book.specs.Table.{fault_in, is_fault}
@@ -10,7 +10,7 @@ use Rattle.ledger.proofs.Sums.{first_differing_none, first_differing_some, get_o
 use Rattle.tariff.specs.Limits.{line_count}
 use Rattle.tariff.specs.Pricing.{Meaning}
 use Rattle.tariff.specs.declared.refusal.Refusal.TheVariants.{LinePastLimit}
-use Rattle.audit.specs.Laws.{IsBilled}
+use Rattle.audit.specs.States.{IsBilled}
 use Rattle.audit.proofs.Priced.{amounts_line, length_amounts}
 use Rattle.audit.proofs.Sound.{Sound, none_some}
 use Rattle.audit.proofs.Table.{month_there}
@@ -68,7 +68,7 @@ module _ (meaning : Meaning) (v : View) (m : ℕ) (sound : Sound meaning v) (bil
 
 some_is : {X : Type 0} (o : Option X) → is_some o ≡ true → (x : X) × (o ≡ Some x)
 some_is (Some x) e = (x, refl)
-some_is None e = let never : ◌≡◌ {A = ℕ} 0 1 = cc in let none : ⊥ = omega arith in elim none [ ]
+some_is None e = elim (both_ways false refl e) [ ]
 
 -- whether some line differs
 differs : (n : ℕ) (amounts so_far : List ℤ) → length amounts ≡ n → length so_far ≡ n

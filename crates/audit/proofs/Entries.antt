@@ -1,7 +1,7 @@
--- The ledger of a run: what the accepted bills and true-ups prescribe, in their order.
+-- The ledger of a run: what the accepted bills and true-ups write, in their order.
 use Rattle.std.proofs.Common.{◌≡◌, cond, List, [], ◌∷◌, ◌++◌, sym, refl, ap, ◌∙◌}
 use Rattle.std.proofs.lemmas.List.{append_assoc, append-nil}
-use Rattle.book.specs.Calls.{Call, opens, starts, posts, posts_day, bills, trues_up, finalises, asks}
+use Rattle.book.specs.Calls.{Call, bills, trues_up}
 use Rattle.book.specs.Steps.{view_after, step}
 use Rattle.book.specs.Views.{View}
 use Rattle.tariff.specs.Pricing.{Meaning}
@@ -9,16 +9,11 @@ use Rattle.audit.specs.Runs.{is_accepted, view_after_calls, call_entries, entrie
 use Rattle.audit.proofs.Table.{by_step}
 
 module _ (meaning : Meaning) where
-  after_ledger : (call : Call) (v : View)
+  pub after_ledger : (call : Call) (v : View)
       → (view_after meaning call v).ledger ≡ v.ledger ++ call_entries meaning call v
   after_ledger (bills m) v = refl
   after_ledger (trues_up m) v = refl
-  after_ledger (opens code contract substation carried) v = sym (append-nil v.ledger)
-  after_ledger (starts days) v = sym (append-nil v.ledger)
-  after_ledger (posts m place post) v = sym (append-nil v.ledger)
-  after_ledger (posts_day m day code readings) v = sym (append-nil v.ledger)
-  after_ledger (finalises m) v = sym (append-nil v.ledger)
-  after_ledger (asks question) v = sym (append-nil v.ledger)
+  after_ledger _ v = sym (append-nil v.ledger)
 
   step_ledger : (call : Call) (v : View)
       → (step meaning call v).ledger ≡ v.ledger ++ cond (is_accepted meaning call v) (call_entries meaning call v) []

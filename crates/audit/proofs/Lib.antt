@@ -1,9 +1,14 @@
+pub mod Added
 pub mod Answered
 pub mod Entries
 pub mod Files
 pub mod Months
+pub mod OnFile
 pub mod Ordered
+pub mod Places
 pub mod Priced
 pub mod Promised
+pub mod Said
 pub mod Sound
+pub mod States
 pub mod Table

@@ -1,7 +1,7 @@
 -- Months by their number: one altered, one more started, and what a month past the last one is.
 use Rattle.std.proofs.Common.{◌≡◌, ℕ, ◌<◌, ◌≤◌, true, false, ◌≢◌, List, [], ◌∷◌, ◌++◌, map, length, get_or, take, Some, sym, refl, ap, ◌∙◌, inl, inr, arith}
 use lib.Seq.{length-sets}
-use Rattle.std.proofs.lemmas.List.{get_or_append_left, get_or_past, get_or_push, get_or-set_other, get_or-set_same, get_or-take, length_push, length-replicate}
+use Rattle.std.proofs.lemmas.List.{get_or_append_left, get_or_past, get_or_push, get_or-set_other, get_or-set_same, get_or-take, length_push, length-replicate, length-set}
 use Rattle.std.proofs.lemmas.Bool.{both_ways, cases_eq, cases_lt}
 use Rattle.store.specs.Posts.{month_with_day, month_with_post}
 use Rattle.store.specs.declared.post.Post.{Post}
@@ -9,7 +9,7 @@ use Rattle.store.specs.declared.post.Post.TheVariants.{Reading as OfReading, Pri
 use Rattle.store.specs.declared.post.Reading.{Reading}
 use Rattle.book.specs.Views.{View, month_has_reached, month_index}
 use Rattle.std.proofs.lemmas.List.Sums.{prefix_len_passes}
-use Rattle.store.specs.Months.{Month, months_with, first_short_month, new_month, no_month, quarters_of, has_reached}
+use Rattle.store.specs.Months.{Month, months_with, first_short_month, hours_of, new_month, no_month, quarters_of, has_reached}
 use Rattle.store.specs.declared.month.State.{State}
 use Rattle.store.specs.declared.month.State.TheVariants.{Open, Billed, Final}
 
@@ -23,9 +23,9 @@ unbilled_unsettled Open e = refl
 unbilled_unsettled Billed e = refl
 unbilled_unsettled Final e = e
 
--- a month has as many readings as its days have quarters
+-- a month has as many readings and hours as its days have quarters and hours
 abbrev pub Shaped : Month → Type 0
-Shaped month = length month.readings ≡ quarters_of month.days
+Shaped month = (length month.readings ≡ quarters_of month.days) × (length month.hours ≡ hours_of month.days)
 
 pub new_month_open : (days : ℕ) → (new_month days).state ≡ Open
 unfolding new_month
@@ -33,7 +33,7 @@ new_month_open days = refl
 
 pub new_month_shaped : (days : ℕ) → Shaped (new_month days)
 unfolding new_month
-new_month_shaped days = length-replicate (quarters_of days) _
+new_month_shaped days = (length-replicate (quarters_of days) _, length-replicate (hours_of days) _)
 
 pub no_month_open : no_month.state ≡ Open
 unfolding no_month
@@ -97,7 +97,7 @@ billed_there v m low billed =
       | inr there ↦ there
     ]
 
--- an alteration that keeps a month's state, and how many readings it has
+-- an alteration that keeps a month's state, and how many readings and hours it has
 pub record Fills (alter : Month → Month) : Type 0 where
   pub state : (month : Month) → (alter month).state ≡ month.state
   pub shaped : (month : Month) → Shaped month → Shaped (alter month)
@@ -105,15 +105,21 @@ pub record Fills (alter : Month → Month) : Type 0 where
 pub post_fills : (place : ℕ) (post : Post) → Fills (month_with_post place post)
 post_fills place (OfReading posted) = record {
   state = λ month. refl;
-  shaped = λ month shaped. length-sets month.readings place (map Some (posted ∷ [])) ∙ shaped;
+  shaped = λ month shaped. (length-sets month.readings place (map Some (posted ∷ [])) ∙ shaped.0, shaped.1);
 }
-post_fills place (Price price) = record { state = λ month. refl; shaped = λ month shaped. shaped }
-post_fills place (Scheduled kw) = record { state = λ month. refl; shaped = λ month shaped. shaped }
+post_fills place (Price price) = record {
+  state = λ month. refl;
+  shaped = λ month shaped. (shaped.0, length-set month.hours place _ ∙ shaped.1);
+}
+post_fills place (Scheduled kw) = record {
+  state = λ month. refl;
+  shaped = λ month shaped. (shaped.0, length-set month.hours place _ ∙ shaped.1);
+}
 
 pub day_fills : (day : ℕ) (readings : List Reading) → Fills (month_with_day day readings)
 day_fills day readings = record {
   state = λ month. refl;
-  shaped = λ month shaped. length-sets month.readings (quarters_of day) (map Some readings) ∙ shaped;
+  shaped = λ month shaped. (length-sets month.readings (quarters_of day) (map Some readings) ∙ shaped.0, shaped.1);
 }
 
 -- where no earlier month is short of a state, each has reached it

@@ -8,7 +8,7 @@ use Rattle.book.specs.Calls.{Call, opens, starts, posts, posts_day, bills, trues
 use Rattle.store.specs.Posts.{month_with_day, month_with_post}
 use Rattle.book.specs.Steps.{view_after, with_month, step}
 use Rattle.book.specs.Table.{bill_entries, is_fault, refusal_of, true_up_entries}
-use Rattle.book.specs.Views.{View, altered_line, blank_view, month_has_reached, month_at, month_index, month_outcome}
+use Rattle.book.specs.Views.{View, altered_line, month_has_reached, month_at, month_index, month_outcome}
 use Rattle.ledger.specs.Entries.{entries_for, line_sum, sums}
 use Rattle.ledger.specs.declared.entry.Entry.{Entry}
 use Rattle.ledger.specs.declared.entry.EntryKind.{EntryKind}
@@ -18,6 +18,7 @@ use Rattle.store.specs.declared.carried.TheConstants.{RATCHET}
 use Rattle.store.specs.declared.month.State.TheVariants.{Billed, Final}
 use Rattle.tariff.specs.Limits.{line_count}
 use Rattle.tariff.specs.Pricing.{Meaning}
+use Rattle.audit.specs.Laws.{Run, book_after, new_book}
 use Rattle.audit.specs.Runs.{view_after_calls}
 use Rattle.audit.proofs.Files.{Spared, spared_altered, spared_priced}
 use Rattle.audit.proofs.Months.{Shaped, altered_here, altered_other, billed_there, final_billed, new_month_shaped, no_month_open, no_month_shaped, none_short, Fills, post_fills, day_fills, pushed_other, pushed_state, unbilled_unsettled}
@@ -290,11 +291,14 @@ runs_kept meaning (call ∷ calls) v sound =
           (all.0, λ l. all.1 l ∙ one.1 l);
     }
 
-pub blank_sound : (meaning : Meaning) (capacity room : ℕ) → Sound meaning (blank_view capacity room)
-blank_sound meaning capacity room = record {
+pub begun_sound : (meaning : Meaning) (run : Run) → Sound meaning (new_book run)
+begun_sound meaning run = record {
   counted = length_earlier_peaks [];
   empty = λ blank. refl;
   shaped = λ m low. no_month_shaped;
   unbilled = λ m l low short. line_sum_none m l;
-  settled = λ m low final. elim (none_final (blank_view capacity room) m low refl final) [ ];
+  settled = λ m low final. elim (none_final (new_book run) m low refl final) [ ];
 }
+
+pub reached_sound : (meaning : Meaning) (run : Run) → Sound meaning (book_after meaning run)
+reached_sound meaning run = (runs_kept meaning run.calls (new_book run) (begun_sound meaning run)).sound

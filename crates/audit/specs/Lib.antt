@@ -1,3 +1,6 @@
 pub mod Audits
+pub mod Histories
+pub mod LastPosts
 pub mod Laws
 pub mod Runs
+pub mod States

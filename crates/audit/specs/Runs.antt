@@ -1,9 +1,9 @@
 -- Calls performed on a book one after another, all under one schedule.
-use Rattle.std.specs.Prelude.{ℕ, Bool, false, not, ◌&&◌, List, [], ◌∷◌, ◌++◌, is_some, Some, None, Option, ◌==◌, if◌then◌else◌}
+use Rattle.std.specs.Prelude.{ℕ, Bool, false, ◌&&◌, List, [], ◌∷◌, ◌++◌, Some, None, Option, is_ok, ◌==◌, if◌then◌else◌}
 use Rattle.std.specs.Option.{option_or}
 use Rattle.book.specs.Calls.{Call, bills, trues_up}
-use Rattle.book.specs.Steps.{step}
-use Rattle.book.specs.Table.{bill_entries, refusal_of, true_up_entries}
+use Rattle.book.specs.Steps.{answer, step}
+use Rattle.book.specs.Table.{bill_entries, true_up_entries}
 use Rattle.book.specs.Views.{View}
 use Rattle.ledger.specs.declared.entry.Entry.{Entry}
 use Rattle.tariff.specs.Pricing.{Meaning}
@@ -13,16 +13,17 @@ abbrev pub view_after_calls : Meaning → List Call → View → View
 view_after_calls meaning [] v = v
 view_after_calls meaning (call ∷ calls) v = view_after_calls meaning calls (step meaning call v)
 
+-- whether the call is answered with its reply, and not refused
 abbrev pub is_accepted : Meaning → Call → View → Bool
-is_accepted meaning call v = not (is_some (refusal_of meaning call v))
+is_accepted meaning call v = is_ok (answer meaning call v)
 
--- the entries that a call prescribes where it is accepted: a bill's and a true-up's, and no others
+-- the entries that a call writes where it is accepted, as the table has them: a bill's, a true-up's, or none
 abbrev pub call_entries : Meaning → Call → View → List Entry
 call_entries meaning (bills m) v = bill_entries meaning v m
 call_entries meaning (trues_up m) v = true_up_entries meaning v m
 call_entries meaning _ v = []
 
--- all that the accepted calls prescribe, in their order
+-- all that the accepted calls write, in their order
 abbrev pub entries_of_calls : Meaning → List Call → View → List Entry
 entries_of_calls meaning [] v = []
 entries_of_calls meaning (call ∷ calls) v =

@@ -8,7 +8,8 @@ use Rattle.store.specs.declared.month.State.{State}
 use Rattle.tariff.specs.Pricing.{Meaning}
 use Rattle.tariff.specs.declared.refusal.Refusal.{Refusal}
 use Rattle.tariff.specs.declared.refusal.Refusal.TheVariants.{EarlierMonth}
-use Rattle.book.specs.Books.{Performs, IsUnaltered, view}
+use Rattle.store.proofs.Kept.{filed_from}
+use Rattle.book.specs.Books.{IsUnaltered, Performs, SameMemory, file_of, view}
 use Rattle.book.specs.Calls.{Call, Reply}
 use Rattle.book.specs.NamedMonths.{IsInBook, IsChangeable}
 use Rattle.book.specs.Steps.{view_after, answer, reply_unless, reply, view_unless}
@@ -40,26 +41,38 @@ first_holds (row ∷ before) held after all is = pass row (before ++ held ∷ af
 pub unaltered : (book : Book) → IsUnaltered book book
 unaltered book = search rules
 
+-- the same records and the same memory are the same months
+pub same_file : (book book' : Book) → book'.months ≡ book.months → book'.quarters.now ≡ book.quarters.now
+    → book'.hours.now ≡ book.hours.now → file_of book' ≡ file_of book
+same_file book book' months quarters hours = filed_from book'.filed months quarters hours book.filed
+
 -- a book that nothing altered holds what it held
-unaltered_view : (book book' : Book) → IsUnaltered book book' → view book' ≡ view book
-unaltered_view book book' same = cc
+pub unaltered_view : (book book' : Book) → IsUnaltered book book' → view book' ≡ view book
+unaltered_view book book' same =
+    let file = same_file book book' same.months same.quarters same.hours in
+    rw (file, same.point, same.written, same.entries) refl
+
+pub same_memory : (book : Book) → SameMemory book book
+same_memory book = record { quarters = refl; hours = refl; entries = refl }
 
 module _ (meaning : Meaning) (call : Call) (book book' : Book) where
   pub is_refused : (refusal : Refusal) → refusal_of meaning call (view book) ≡ Some refusal
-      → IsUnaltered book book' → Performs meaning call book (Err refusal) book'
-  is_refused refusal by same = record {
+      → IsUnaltered book book' → SameMemory book book' → Performs meaning call book (Err refusal) book'
+  is_refused refusal by same memory = record {
     answers = sym (ap (λ o. reply_unless o (reply meaning call (view book))) by);
     leaves = unaltered_view book book' same ∙ sym (ap (λ o. view_unless o (view_after meaning call (view book)) (view book)) by);
     keeps = same;
+    memory = memory;
   }
 
   pub is_taken : (r : Reply call) → refusal_of meaning call (view book) ≡ None
       → r ≡ reply meaning call (view book) → view book' ≡ view_after meaning call (view book)
-      → Performs meaning call book (Ok r) book'
-  is_taken r by replied made = record {
+      → SameMemory book book' → Performs meaning call book (Ok r) book'
+  is_taken r by replied made memory = record {
     answers = ap Ok replied ∙ sym (ap (λ o. reply_unless o (reply meaning call (view book))) by);
     leaves = made ∙ sym (ap (λ o. view_unless o (view_after meaning call (view book)) (view book)) by);
     keeps = tt;
+    memory = memory;
   }
 
 -- the exit of a `?`, before anything was altered
@@ -68,7 +81,7 @@ module _ (meaning : Meaning) (call : Call) (book : Book) (r : Result (Reply call
   pub is_refused_by : refusal_of meaning call (view book) ≡ Some refusal → Performs meaning call book r book
   is_refused_by by =
       let p = err_from_is_err_and r is in
-      rw p.1 (is_refused meaning call book book p.0 (by ∙ ap Some (sym p.2)) (unaltered book))
+      rw p.1 (is_refused meaning call book book p.0 (by ∙ ap Some (sym p.2)) (unaltered book) (same_memory book))
 
 -- a month that was found passes the rows that every call with a month begins with
 module _ (m : ℕ) (v : View) (found : NamedMonth) where

@@ -9,4 +9,5 @@ pub mod Requests
 pub mod Steps
 pub mod Table
 pub mod Texts
+pub mod Unbilled
 pub mod Views

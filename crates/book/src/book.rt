@@ -1,29 +1,35 @@
 // The book of one point, and what all its calls need: the month that a call names, and its price.
-ghost use Rattle.std.specs.Prelude.{◌≡◌, ℕ, ◌+◌, true, false, length, pos, slice_index_or, MatchResult, Some, None};
-ghost use Rattle.ledger.specs.Entries.{line_sum};
-ghost use Rattle.ledger.specs.Ledgers.{entries_of};
-ghost use Rattle.store.specs.Months.{no_month, has_reached};
-ghost use Rattle.store.specs.Stores.{capacity, months_of};
-ghost use Rattle.store.specs.declared.month.State.TheVariants.{Billed};
+ghost use Rattle.std.specs.Prelude.{◌≡◌, true, false, length, take, MatchResult, Some, None};
+ghost use Rattle.ledger.specs.Entries.{IsLedger};
+ghost use Rattle.store.specs.Records.{Keeps};
+ghost use Rattle.store.specs.Stores.{capacity, filed_in};
+ghost use Rattle.book.specs.Unbilled.{IsUnbilled};
 ghost use Rattle.tariff.specs.Pricing.{plain_amounts, month_result};
 ghost use Rattle.tariff.specs.declared.refusal.Refusal.TheVariants.{BookBlank};
 
 use crate::point::Point;
-use ledger::{Entry, Ledger};
-use store::{Hour, Quarter, State, Store};
-use tariff::{Amounts, Facts, Refusal, Schedule};
+use ledger::Entry;
+use store::{Hour, MonthRecords, MonthsOnFile, Quarter, State};
+use tariff::{Amounts, Facts, Fault, Refusal, Schedule};
 
 /// The months on file and the ledger of one point, over lent memory; blank until it is opened. A
-/// refused call leaves it as it was. Every call but `open` is refused while the book is blank, and
-/// each that names a month where no such month was started; `ledger` is never refused.
+/// refused call leaves it, and all of the memory, as it was. Every call but `open` is refused while
+/// the book is blank, and each that names a month where no such month was started; `ledger` is never
+/// refused. Each slice is lent by itself and stays behind its own reference, so that whoever lent it
+/// knows what it holds once the book is gone.
 #[derive(Drop)]
-pub struct Book<'a> {
+pub struct Book<'q, 'h, 'e> {
     pub(crate) point: Option<Point>,
-    pub(crate) store: Store<'a>,
-    pub(crate) ledger: Ledger<'a>,
+    pub(crate) quarters: &'q mut [Quarter],
+    pub(crate) hours: &'h mut [Hour],
+    pub(crate) months: MonthRecords,
+    pub(crate) entries: &'e mut [Entry],
+    // how many of the entries were written
+    pub(crate) written: usize,
+    ghost filed: { Keeps months quarters.now hours.now },
+    ghost ledgered: { IsLedger written entries.now },
     // a month that is not billed has no entry that counts
-    ghost unbilled: { (k : ℕ) → has_reached Billed (slice_index_or (months_of store) k no_month).state ≡ false
-        → (line : ℕ) → line_sum (entries_of ledger) (k + 1) line ≡ pos 0 },
+    ghost unbilled: { IsUnbilled months quarters.now hours.now filed (take written entries.now) },
 }
 
 // A month of an opened book: as the caller named it, with its index, and its number as entries have
@@ -38,26 +44,44 @@ pub(crate) struct NamedMonth {
     pub(crate) state: State,
 }
 
-impl<'a> Book<'a> {
-    ghost use Rattle.book.specs.Books.{view};
+impl<'q, 'h, 'e> Book<'q, 'h, 'e> {
+    ghost use Rattle.book.specs.Books.{IsLent, LeavesMemory, StandsIn, file_of, view};
     ghost use Rattle.book.specs.NamedMonths.{IsChangeable, IsInBook, RefusesChange, RefusesMonth};
     ghost use Rattle.book.specs.Table.{earlier_month};
     ghost use Rattle.book.specs.Views.{blank_view, facts_of, month_outcome};
 
     /// A blank book over lent memory, for as many months and entries as there is room for, at most
-    /// `store::MOST_MONTHS` months. Whatever stands in the memory is never taken for a post.
+    /// `store::MOST_MONTHS` months. Whatever stands in the memory is never taken for a post. What
+    /// any book holds stands in its memory, at the places that `StandsIn` says.
     pub fn new(
-        quarters: &'a mut [Quarter],
-        hours: &'a mut [Hour],
-        entries: &'a mut [Entry],
-    ) -> Book<'a>
-        ensures { view result
+        quarters: &'q mut [Quarter],
+        hours: &'h mut [Hour],
+        entries: &'e mut [Entry],
+    ) -> Book<'q, 'h, 'e>
+        ensures blank { view result
             ≡ blank_view (capacity (length quarters.old) (length hours.old)) (length entries.old) }
+        ensures lent { IsLent quarters.entry hours.entry entries.entry result }
+        ensures kept { LeavesMemory quarters.old hours.old entries.old result }
+        ensures stands { (book : _) → StandsIn book }
     {
         Book {
             point: None,
-            store: Store::new(quarters, hours),
-            ledger: Ledger::new(entries),
+            quarters,
+            hours,
+            months: MonthRecords::none(),
+            entries,
+            written: 0,
+        }
+    }
+
+    // The months on file, as they are read.
+    pub(crate) fn on_file(&self) -> MonthsOnFile<'_>
+        ensures { filed_in result ≡ file_of self.now }
+    {
+        MonthsOnFile {
+            quarters: self.quarters,
+            hours: self.hours,
+            months: &self.months,
         }
     }
 
@@ -79,7 +103,7 @@ impl<'a> Book<'a> {
             return Err(Refusal::NoSuchMonth { month });
         }
         let index = month as usize - 1;
-        let Some(record) = self.store.record(index) else {
+        let Some(record) = self.on_file().record(index) else {
             return Err(Refusal::NoSuchMonth { month });
         };
         Ok(NamedMonth {
@@ -112,7 +136,7 @@ impl<'a> Book<'a> {
             (λ refusal. ((earlier_month state named.now.month (view self.now)).holds ≡ true)
             × (refusal ≡ (earlier_month state named.now.month (view self.now)).refusal)) }
     {
-        match self.store.first_short(state, named.index) {
+        match self.on_file().first_short(state, named.index) {
             Some(short) => Err(Refusal::EarlierMonth {
                 month: named.month,
                 place: short as u64 + 1,
@@ -126,12 +150,24 @@ impl<'a> Book<'a> {
         requires { IsInBook named.now.month (view self.now) named.now }
         ensures { result.plain ≡ facts_of (view self.now) named.now.month }
     {
-        self.store
+        self.on_file()
             .facts(named.index, named.point.capacities)
             .unwrap()
     }
 
-    // The price of a month, as the file stands. A schedule's fault is refused with the month.
+    // What the schedule makes of a month, as the file stands. Its fault comes up as it is.
+    fn outcome<S: Schedule>(&self, named: &NamedMonth, schedule: &S) -> Result<Amounts, Fault>
+        requires { IsInBook named.now.month (view self.now) named.now }
+        ensures { plain_amounts result
+            ≡ month_outcome (S.meaning schedule.now) (view self.now) named.now.month }
+    {
+        let facts = self.facts(named);
+        let month_hours = self.on_file().hours(named.index);
+        let amounts = schedule.price(&facts, &month_hours.hours())?;
+        Ok(amounts)
+    }
+
+    // The price of a month, as the file stands; to a fault that came up, the call adds the month.
     pub(crate) fn price<S: Schedule>(
         &self,
         named: &NamedMonth,
@@ -142,11 +178,7 @@ impl<'a> Book<'a> {
             ≡ month_result named.now.month
             (month_outcome (S.meaning schedule.now) (view self.now) named.now.month) }
     {
-        let facts = self.facts(named);
-        let month_hours = self.store.hours(named.index);
-        let hours = month_hours.hours();
-        schedule
-            .price(&facts, &hours)
+        self.outcome(named, schedule)
             .map_err(|fault| Refusal::LinePastLimit {
                 month: named.month,
                 fault,

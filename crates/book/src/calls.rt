@@ -1,27 +1,26 @@
 // A call that is given as a value.
 ghost use Rattle.std.specs.Prelude.{◌≡◌};
-ghost use Rattle.book.specs.Books.{view};
-ghost use Rattle.book.specs.Requests.{answer_of, call_of};
-ghost use Rattle.book.specs.Steps.{answer, step};
+ghost use Rattle.book.specs.Requests.{PerformsAs, call_of};
 ghost use Rattle.book.specs.declared.request.Answer.TheVariants.{Done};
 
 use crate::book::Book;
 use crate::request::{Answer, Request};
 use tariff::Schedule;
 
-// What a call that replies nothing answered.
+// The answer of a call that replies nothing.
 fn done(_reply: ()) -> Answer
     ensures { result ≡ Done }
 {
     Answer::Done
 }
 
-/// Makes the call that is requested, under the schedule where it prices; what it answers.
-pub fn perform<S: Schedule>(book: &mut Book<'_>, schedule: &S, request: Request<'_>) -> Answer
-    ensures answers { result ≡ answer_of (call_of request.entry)
-        (answer (S.meaning schedule.now) (call_of request.entry) (view book.old)) }
-    ensures leaves { view book.new
-        ≡ step (S.meaning schedule.now) (call_of request.entry) (view book.old) }
+/// Makes the requested call, under the schedule where it prices, and gives its answer.
+pub fn perform<S: Schedule>(
+    book: &mut Book<'_, '_, '_>,
+    schedule: &S,
+    request: Request<'_>,
+) -> Answer
+    ensures { PerformsAs (S.meaning schedule.now) (call_of request.entry) book.old result book.new }
 {
     match request {
         Request::Open {

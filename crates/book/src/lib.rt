@@ -8,6 +8,7 @@ mod book;
 mod calls;
 mod memory;
 mod opening;
+mod parts;
 mod point;
 mod posts;
 mod reports;

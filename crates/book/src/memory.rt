@@ -1,6 +1,6 @@
 // Memory for a book.
 ghost use Rattle.std.specs.Prelude.{◌≡◌, IfOk, min};
-ghost use Rattle.store.specs.declared.store.TheConstants.{MOST_MONTHS};
+ghost use Rattle.store.specs.declared.month.TheConstants.{MOST_MONTHS};
 
 use crate::book::Book;
 use ledger::Entry;
@@ -35,7 +35,7 @@ impl BookMemory {
     }
 
     /// A blank book over it.
-    pub fn book(&mut self) -> Book<'_>
+    pub fn book(&mut self) -> Book<'_, '_, '_>
         ensures { view result ≡ blank_view (month_room self.old) (entry_room self.old) }
     {
         Book::new(

@@ -3,10 +3,12 @@ ghost use Rattle.std.specs.Prelude.{◌≡◌};
 ghost use Rattle.tariff.specs.Pricing.{Meaning};
 
 use crate::book::Book;
+use crate::parts::lend_store;
 use crate::point::{Point, PointCode};
+use store::Store;
 use tariff::{Capacities, Refusal};
 
-impl Book<'_> {
+impl Book<'_, '_, '_> {
     ghost use Rattle.book.specs.Books.{Performs};
     ghost use Rattle.book.specs.Calls.{opens, starts};
     ghost use Rattle.book.specs.PointCodes.{code_bytes};
@@ -30,7 +32,8 @@ impl Book<'_> {
             return Err(Refusal::BookOpen);
         }
         let capacities = Capacities::new(contract, substation).ok_or(Refusal::OpeningOutside)?;
-        self.store.carry(carried)?;
+        lend_store!(self, store);
+        store.carry(carried)?;
         self.point = Some(Point { code, capacities });
         Ok(())
     }
@@ -41,6 +44,7 @@ impl Book<'_> {
         ensures { (meaning : Meaning) → Performs meaning (starts days) self.old result self.new }
     {
         self.open_point(0)?;
-        self.store.start(days)
+        lend_store!(self, store);
+        store.start(days)
     }
 }

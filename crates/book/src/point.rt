@@ -15,10 +15,12 @@ pub struct PointCode {
 
 impl PointCode {
     ghost use Rattle.book.specs.PointCodes.{code_bytes};
+    ghost use Rattle.book.specs.declared.point.TheConstants.{CODE_BYTES};
 
     /// Its bytes, in their order.
     pub fn bytes(self) -> [u8; CODE_BYTES]
-        ensures { result ≡ code_bytes self }
+        ensures bytes { result ≡ code_bytes self }
+        ensures width { CODE_BYTES ≡ 8 }
     {
         self.bytes
     }

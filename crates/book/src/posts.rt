@@ -4,8 +4,9 @@ ghost use Rattle.tariff.specs.Pricing.{Meaning};
 ghost use Rattle.book.specs.Posts.{post_refusal};
 
 use crate::book::Book;
+use crate::parts::lend_store;
 use crate::point::PointCode;
-use store::{Post, PostError, Reading};
+use store::{Post, PostError, Reading, Store};
 use tariff::Refusal;
 
 // The refusal of a post that the store does not take.
@@ -24,7 +25,7 @@ fn post_refusal(month: u32, place: u32, error: PostError) -> Refusal
     }
 }
 
-impl Book<'_> {
+impl Book<'_, '_, '_> {
     ghost use Rattle.book.specs.Books.{Performs};
     ghost use Rattle.book.specs.Calls.{posts, posts_day};
     ghost use Rattle.book.specs.PointCodes.{code_bytes};
@@ -36,7 +37,8 @@ impl Book<'_> {
             → Performs meaning (posts month place post) self.old result self.new }
     {
         let named = self.changeable_month(month)?;
-        self.store
+        lend_store!(self, store);
+        store
             .post(named.index, place as usize, post)
             .map_err(|error| post_refusal(month, place, error))
     }
@@ -60,7 +62,8 @@ impl Book<'_> {
         if day < u32::from(named.days) && !named.point.has_code(code) {
             return Err(Refusal::OtherPoint { month });
         }
-        self.store
+        lend_store!(self, store);
+        store
             .post_day(named.index, day as usize, readings)
             .map_err(|error| post_refusal(month, day, error))
     }

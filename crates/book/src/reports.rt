@@ -3,7 +3,7 @@ ghost use Rattle.std.specs.Prelude.{◌≡◌, length, [], Some, MatchResult};
 ghost use Rattle.tariff.specs.Pricing.{Meaning};
 
 use crate::book::Book;
-use ledger::{Entries, NoText};
+use ledger::Entries;
 use store::State;
 use tariff::{Facts, LINES, Refusal, Schedule};
 
@@ -18,7 +18,7 @@ pub struct MonthOnFile {
     pub facts: Facts,
 }
 
-impl Book<'_> {
+impl Book<'_, '_, '_> {
     ghost use Rattle.book.specs.Books.{Answers, view};
     ghost use Rattle.book.specs.Calls.{asks, whether_due, line_total};
     ghost use Rattle.book.specs.OnFile.{IsOnFile};
@@ -49,8 +49,7 @@ impl Book<'_> {
         }
         let amounts = self.price(&named, schedule)?;
         Ok(
-            self.ledger
-                .entries()
+            self.ledger()
                 .first_differing(named.number, &amounts)
                 .is_some(),
         )
@@ -72,14 +71,16 @@ impl Book<'_> {
         if !named.state.has_reached(State::Billed) {
             return Err(Refusal::MonthOpen { month });
         }
-        Ok(self.ledger.entries().total(named.number, line as u8))
+        Ok(self.ledger().total(named.number, line as u8))
     }
 
     /// The ledger: its entries, in the order in which they were written.
     pub fn ledger(&self) -> Entries<'_>
         ensures { result.slice.now ≡ (view self.now).ledger }
     {
-        self.ledger.entries()
+        Entries {
+            slice: &self.entries[..self.written],
+        }
     }
 
     /// Prints an entry, by its number from 0, as a line at the front of the bytes; answers its
@@ -91,15 +92,6 @@ impl Book<'_> {
         ensures ordered { IsInOrder (text_rows entry (length bytes.old) (view self.now)) }
     {
         self.open_point(0)?;
-        self.ledger
-            .entries()
-            .text(entry as usize, bytes)
-            .map_err(|why| match why {
-                NoText::NoSuchEntry => Refusal::NoSuchPlace {
-                    month: 0,
-                    place: entry.into(),
-                },
-                NoText::TooFewBytes => Refusal::TooFewBytes,
-            })
+        Ok(self.ledger().text(entry as usize, bytes)?)
     }
 }

@@ -71,7 +71,7 @@ pub(crate) enum Reply {
 }
 
 fn post_day(
-    book: &mut Book<'_>,
+    book: &mut Book<'_, '_, '_>,
     month: u32,
     day: u32,
     code: [u8; 8],
@@ -92,7 +92,7 @@ fn done(_reply: ()) -> Reply {
 }
 
 fn ask_by<S: Schedule>(
-    book: &mut Book<'_>,
+    book: &mut Book<'_, '_, '_>,
     ask: Ask,
     month: u32,
     schedule: &S,
@@ -105,7 +105,7 @@ fn ask_by<S: Schedule>(
     }
 }
 
-fn ask_priced(book: &mut Book<'_>, ask: Ask, month: u32, by: By) -> Result<Reply, Refusal> {
+fn ask_priced(book: &mut Book<'_, '_, '_>, ask: Ask, month: u32, by: By) -> Result<Reply, Refusal> {
     match by {
         By::Dts => ask_by(book, ask, month, &dts()?),
         By::Gts => ask_by(book, ask, month, &gts()?),
@@ -122,7 +122,7 @@ fn ask_priced(book: &mut Book<'_>, ask: Ask, month: u32, by: By) -> Result<Reply
     }
 }
 
-fn make(book: &mut Book<'_>, call: Call) -> Result<Reply, Refusal> {
+fn make(book: &mut Book<'_, '_, '_>, call: Call) -> Result<Reply, Refusal> {
     match call {
         Call::Open(contract, substation) => book
             .open(CODE.into(), contract, substation, &[30_000])
@@ -157,7 +157,11 @@ pub(crate) fn refused(number: u8, month: u32, place: u64, rider: u16) -> Result<
 }
 
 // Makes the calls in their order. Each has to answer so, or be refused by four numbers.
-pub(crate) fn run(rt: &impl Abort, book: &mut Book<'_>, calls: &[(Call, Result<Reply, Numbers>)]) {
+pub(crate) fn run(
+    rt: &impl Abort,
+    book: &mut Book<'_, '_, '_>,
+    calls: &[(Call, Result<Reply, Numbers>)],
+) {
     for (i, (call, answer)) in calls.iter().enumerate() {
         let answered = make(book, *call).map_err(|refusal| refusal.numbers());
         // the place in the table says which call it was

@@ -13,7 +13,7 @@ const LOW: Reading = Reading {
 
 // Starts, fills and bills a month of 28 days; answers its billing capacity in tenths of a kW, which
 // is all that the sheet charges, a cent each.
-fn capacity_billed(book: &mut Book<'_>) -> Result<i64, Refusal> {
+fn capacity_billed(book: &mut Book<'_, '_, '_>) -> Result<i64, Refusal> {
     let month = book.start(28)?;
     fill(book, month, 28, LOW, 0)?;
     book.bill(month, &capacity()?)?;

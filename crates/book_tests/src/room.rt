@@ -52,7 +52,7 @@ fn a_book_of_two_months_fits_64_kib(rt: HostRuntime) {
     let readings = size_of::<[Quarter; 5952]>();
     let hours = size_of::<[Hour; 1488]>();
     let entries = size_of::<[Entry; 48]>();
-    let book = size_of::<Book<'_>>();
+    let book = size_of::<Book<'_, '_, '_>>();
     assert_eq!(rt; readings, 47_616);
     assert_eq!(rt; hours, 11_904);
     assert_eq!(rt; entries, 768);

@@ -44,14 +44,14 @@ impl<const Q: usize, const H: usize, const E: usize> Memory<Q, H, E> {
         }
     }
 
-    pub(crate) fn book(&mut self) -> Book<'_> {
+    pub(crate) fn book(&mut self) -> Book<'_, '_, '_> {
         Book::new(&mut self.quarters, &mut self.hours, &mut self.entries)
     }
 }
 
 // Posts one reading to every quarter of a month and one price to every hour.
 pub(crate) fn fill(
-    book: &mut Book<'_>,
+    book: &mut Book<'_, '_, '_>,
     month: u32,
     days: u8,
     reading: Reading,
@@ -67,7 +67,7 @@ pub(crate) fn fill(
 }
 
 // Starts a month of 30 days and posts all that a bill of it wants.
-pub(crate) fn start_full(book: &mut Book<'_>) -> Result<u32, Refusal> {
+pub(crate) fn start_full(book: &mut Book<'_, '_, '_>) -> Result<u32, Refusal> {
     let month = book.start(30)?;
     let first = Reading {
         kw: 25_000,
@@ -79,7 +79,7 @@ pub(crate) fn start_full(book: &mut Book<'_>) -> Result<u32, Refusal> {
 }
 
 // What the entries of each line of a month add up to.
-pub(crate) fn totals(book: &Book<'_>, month: u32) -> Result<[i64; LINES], Refusal> {
+pub(crate) fn totals(book: &Book<'_, '_, '_>, month: u32) -> Result<[i64; LINES], Refusal> {
     let mut cents = [0; LINES];
     for line in Line::ALL.iter() {
         cents[line.index()] = book.total(month, line.number().into())?;

@@ -10,14 +10,14 @@ use tariff::{Draft, Refusal};
 const INK: u8 = b'#';
 
 // A ledger with the bill of the usual month.
-fn billed(book: &mut Book<'_>) -> Result<(), Refusal> {
+fn billed(book: &mut Book<'_, '_, '_>) -> Result<(), Refusal> {
     book.open(CODE.into(), 20_000, 30_000, &[30_000])?;
     let month = start_full(book)?;
     book.bill(month, &DTS_2007.seal()?)?;
     Ok(())
 }
 
-fn trued_up(book: &mut Book<'_>) -> Result<usize, Refusal> {
+fn trued_up(book: &mut Book<'_, '_, '_>) -> Result<usize, Refusal> {
     book.true_up(1, &DTS_2007.seal()?)
 }
 

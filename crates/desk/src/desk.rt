@@ -23,12 +23,12 @@ pub(crate) struct Surroundings<'r> {
 
 #[derive(Drop)]
 pub(crate) struct Desk<'b> {
-    book: Book<'b>,
+    book: Book<'b, 'b, 'b>,
     schedule: ChosenSchedule,
 }
 
 impl<'b> Desk<'b> {
-    pub(crate) fn new(book: Book<'b>, mut schedule: ChosenSchedule) -> Desk<'b> {
+    pub(crate) fn new(book: Book<'b, 'b, 'b>, mut schedule: ChosenSchedule) -> Desk<'b> {
         schedule.put_in_use();
         Desk { book, schedule }
     }
@@ -42,16 +42,16 @@ impl<'b> Desk<'b> {
     pub(crate) fn perform<W: Write>(
         &mut self,
         surroundings: Surroundings<'_>,
-        call: &Call<'_>,
+        call: Call<'_>,
         out: &mut W,
     ) -> Result<()> {
         let alloc = surroundings.rt.alloc();
-        // what the desk does itself is answered at once, and the rest is asked of the book
-        let request = match *call {
+        // what the desk does itself is answered here, and the rest is asked of the book
+        match call {
             // memory is given before the book is made
-            Call::Memory { .. } => return Err(LineError::LateMemory.into()),
-            Call::Rate(rate) => return write_chosen(out, self.schedule.begin(alloc, rate)),
-            Call::Rider(rider) => return write_chosen(out, self.schedule.add_rider(rider)),
+            Call::Memory { .. } => Err(LineError::LateMemory.into()),
+            Call::Rate(rate) => write_chosen(out, self.schedule.begin(alloc, rate)),
+            Call::Rider(rider) => write_chosen(out, self.schedule.add_rider(rider)),
             Call::PostRange {
                 month,
                 first,
@@ -59,45 +59,56 @@ impl<'b> Desk<'b> {
                 post,
             } => {
                 let count = (u64::from(last) + 1).saturating_sub(first.into());
-                return write_count(out, self.post_range(month, first, last, post), count);
+                write_count(out, self.post_range(month, first, last, post), count)
             }
             Call::Load { kind, month, file } => {
                 let posts = load(surroundings, kind, file)?;
-                return write_count(out, self.post_list(month, &posts), posts.len() as u64);
+                write_count(out, self.post_list(month, &posts), posts.len() as u64)
             }
-            Call::Text { entry } => return self.write_text(entry, out),
-            Call::Ledger => return self.write_ledger(out),
-            Call::Statement { month } => return self.write_statement(alloc, month, out),
+            Call::Text { entry } => self.write_text(entry, out),
+            Call::Ledger => self.write_ledger(out),
+            Call::Statement { month } => self.write_statement(alloc, month, out),
             Call::Open {
                 code,
                 contract,
                 substation,
-                ref carried,
-            } => Request::Open {
-                code: point_code(code, Verb::Open)?,
-                contract,
-                substation,
-                carried: &carried[..],
-            },
+                carried,
+            } => {
+                let request = Request::Open {
+                    code: point_code(code, Verb::Open)?,
+                    contract,
+                    substation,
+                    carried: &carried[..],
+                };
+                self.ask(request, out)
+            }
             Call::PostDay {
                 month,
                 day,
                 code,
-                ref readings,
-            } => Request::PostDay {
-                month,
-                day,
-                code: point_code(code, Verb::Day)?,
-                readings: &readings[..],
-            },
-            Call::Post { month, place, post } => Request::Post { month, place, post },
-            Call::Start { days } => Request::Start { days },
-            Call::Bill { month } => Request::Bill { month },
-            Call::TrueUp { month } => Request::TrueUp { month },
-            Call::Finalise { month } => Request::Finalise { month },
-            Call::Due { month } => Request::Due { month },
-            Call::Total { month, line } => Request::Total { month, line },
-        };
+                readings,
+            } => {
+                let request = Request::PostDay {
+                    month,
+                    day,
+                    code: point_code(code, Verb::Day)?,
+                    readings: &readings[..],
+                };
+                self.ask(request, out)
+            }
+            Call::Post { month, place, post } => {
+                self.ask(Request::Post { month, place, post }, out)
+            }
+            Call::Start { days } => self.ask(Request::Start { days }, out),
+            Call::Bill { month } => self.ask(Request::Bill { month }, out),
+            Call::TrueUp { month } => self.ask(Request::TrueUp { month }, out),
+            Call::Finalise { month } => self.ask(Request::Finalise { month }, out),
+            Call::Due { month } => self.ask(Request::Due { month }, out),
+            Call::Total { month, line } => self.ask(Request::Total { month, line }, out),
+        }
+    }
+
+    fn ask<W: Write>(&mut self, request: Request<'_>, out: &mut W) -> Result<()> {
         let answer = perform(&mut self.book, &self.schedule.pile, request);
         write_answer(out, &answer)
     }

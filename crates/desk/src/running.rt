@@ -86,7 +86,7 @@ fn go_on<W: Write>(
 ) -> Result<()> {
     for (i, line) in lines.iter().enumerate().skip(begun) {
         if let Some(call) = call(surroundings.rt.alloc(), i + 1, line)? {
-            desk.perform(surroundings, &call, out)
+            desk.perform(surroundings, call, out)
                 .context(format_args!("journal line {}", i + 1))?;
             notice.give(surroundings.rt, desk.has_changed(), i + 1)?;
         }

@@ -8,7 +8,7 @@ use Rattle.book.specs.declared.request.Answer.TheVariants.{Written}
 use Rattle.piles.specs.declared.rate.RateSheet.{RateSheet}
 use Rattle.piles.specs.declared.rider.RiderSheet.{RiderSheet}
 use Rattle.store.specs.declared.post.Reading.{Reading}
-use Rattle.store.specs.declared.store.TheConstants.{MOST_MONTHS}
+use Rattle.store.specs.declared.month.TheConstants.{MOST_MONTHS}
 use Rattle.tariff.specs.Pricing.{Meaning}
 use Rattle.exports.specs.Answers.{damaged_record, failure_record, record_of}
 use Rattle.exports.specs.Calls.{described_call}

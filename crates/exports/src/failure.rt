@@ -6,7 +6,7 @@ ghost use Rattle.exports.specs.declared.failure.Failure.TheVariants as failure;
 use crate::answer::AnswerRecord;
 use book::Answer;
 use std::alloc::AllocError;
-use tariff::Refusal;
+use tariff::{Refusal, Unsealed};
 use thiserror::Error;
 
 // A description that is of no call, rate or rider.
@@ -37,6 +37,14 @@ impl From<Refusal> for Failure {
 
     fn from(refusal: Refusal) -> Failure {
         Failure::Refused(refusal)
+    }
+}
+
+impl<D: Drop> From<Unsealed<D>> for Failure {
+    ghost from_gives = { λ unsealed made. made ≡ failure.Refused unsealed.refusal };
+
+    fn from(unsealed: Unsealed<D>) -> Failure {
+        Failure::Refused(unsealed.refusal)
     }
 }
 

@@ -17,7 +17,7 @@ use tariff::Schedule;
 
 // Performs the call of a record; one that describes none alters nothing.
 fn run_record<S: Schedule>(
-    book: &mut Book<'_>,
+    book: &mut Book<'_, '_, '_>,
     schedule: &S,
     call: &CallRecord,
     lists: &Lists<'_>,
@@ -39,7 +39,7 @@ fn run_record<S: Schedule>(
 
 // The calls in their order, and what each answers.
 fn run_records<S: Schedule>(
-    book: &mut Book<'_>,
+    book: &mut Book<'_, '_, '_>,
     schedule: &S,
     calls: &[CallRecord],
     lists: &Lists<'_>,

@@ -4,3 +4,4 @@ pub mod KindSums
 pub mod Sums
 pub mod Texts
 pub mod Turns
+pub mod Written

@@ -2,6 +2,8 @@
 use Rattle.std.specs.Prelude.{◌≡◌, ℕ, ◌*◌, ◌≤◌, List, ◌++◌, codes, decimal, drop, length, nat_le, nat_lt, slice_index_or, Ok, Err, Result, if◌then◌else◌}
 use Rattle.std.specs.Fmt.{signed_decimal}
 use Rattle.tariff.specs.Limits.{most_cents}
+use Rattle.tariff.specs.declared.refusal.Refusal.{Refusal}
+use Rattle.tariff.specs.declared.refusal.Refusal.TheVariants.{NoSuchPlace, TooFewBytes as BytesTooFew}
 use Rattle.ledger.specs.declared.entry.Entry.{Entry}
 use Rattle.ledger.specs.declared.entry.EntryKind.{EntryKind}
 use Rattle.ledger.specs.declared.entry.EntryKind.TheVariants.{Bill, TrueUp}
@@ -46,6 +48,11 @@ most_owed = 2 * most_cents
 -- how long the line is, or why there is none, from the entries and the number of bytes
 abbrev pub text_answer : ℕ → List Entry → ℕ → Result ℕ NoText
 text_answer entry entries room =
-    if nat_le (length entries) entry then Err NoSuchEntry
+    if nat_le (length entries) entry then Err (NoSuchEntry entry)
     else if nat_lt room MOST_BYTES then Err TooFewBytes
     else Ok (length (line_at entry entries))
+
+-- the refusal that says why, with no month; its place is the entry's number
+abbrev pub no_text_refusal : NoText → Refusal
+no_text_refusal (NoSuchEntry entry) = NoSuchPlace 0 entry
+no_text_refusal TooFewBytes = BytesTooFew

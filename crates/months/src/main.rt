@@ -26,7 +26,7 @@ fn answer(rt: &impl Print, alloc: Global, line: &str) -> anyhow::Result<()> {
     let Some(month) = read_month(alloc, line)? else {
         return Ok(());
     };
-    match price_month(alloc, &month) {
+    match price_month(alloc, month) {
         Ok(amounts) => print_amounts(rt, &amounts)?,
         Err(PileError::Refused(refusal)) => println!(rt; "{refusal}")?,
         Err(PileError::OutOfMemory(error)) => return Err(error.into()),

@@ -119,12 +119,12 @@ mod tests {
         {
             assert_eq!(rt; (row.energy, row.price, row.scheduled), wanted);
         }
-        let RateDraft::Sts(rate) = month.rate else {
+        let RateDraft::Sts(rate) = &month.rate else {
             return Err(Fail::new("another rate"));
         };
         assert_eq!(rt; (rate.loss_factor, rate.unit_rating), (-3, 4));
         assert_eq!(rt; rate.unit_connection, 25_900);
-        let [RiderDraft::Credit(credit), RiderDraft::Energy(energy)] = *month.riders else {
+        let [RiderDraft::Credit(credit), RiderDraft::Energy(energy)] = &*month.riders else {
             return Err(Fail::new("other riders"));
         };
         assert_eq!(rt;

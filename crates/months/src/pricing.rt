@@ -6,12 +6,18 @@ use tariff::{Amounts, Facts, HourList, price};
 
 /// Refused by the first of these that says no: facts, hours, the rate's sheet, the riders' from below,
 /// and then the pricing.
-pub(crate) fn price_month(alloc: Global, month: &Month) -> Result<Amounts, PileError> {
-    let facts = Facts::new(month.facts)?;
-    let hours = HourList::try_from(&month.hours[..])?;
-    let mut pile = Pile::new(alloc, RateSheet::try_from(month.rate)?);
-    for rider in &month.riders {
-        pile.pile(RiderSheet::try_from(*rider)?)?;
+pub(crate) fn price_month(alloc: Global, month: Month) -> Result<Amounts, PileError> {
+    let Month {
+        facts,
+        hours,
+        rate,
+        riders,
+    } = month;
+    let facts = Facts::new(facts)?;
+    let hours = HourList::try_from(&hours[..])?;
+    let mut pile = Pile::new(alloc, RateSheet::try_from(rate)?);
+    for rider in riders {
+        pile.pile(RiderSheet::try_from(rider)?)?;
     }
     Ok(price(&pile, &facts, &hours)?)
 }

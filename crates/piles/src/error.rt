@@ -1,5 +1,8 @@
+ghost use Rattle.std.specs.Prelude.{◌≡◌};
+ghost use Rattle.piles.specs.declared.error.PileError.TheVariants.{Refused};
+
 use std::alloc::AllocError;
-use tariff::Refusal;
+use tariff::{Refusal, Unsealed};
 use thiserror::Error;
 
 /// Why a schedule chosen at run time does not price.
@@ -11,4 +14,12 @@ pub enum PileError {
     /// There is no memory for a rider.
     #[error(transparent)]
     OutOfMemory(#[from(alloc)] AllocError),
+}
+
+impl<D: Drop> From<Unsealed<D>> for PileError {
+    ghost from_gives = { λ unsealed error. error ≡ Refused unsealed.refusal };
+
+    fn from(unsealed: Unsealed<D>) -> PileError {
+        PileError::Refused(unsealed.refusal)
+    }
 }

@@ -1,13 +1,13 @@
-ghost use Rattle.std.specs.Prelude.{◌≡◌, ◌↔◌, List, ℤ, Option, Some, length, IsSome};
+ghost use Rattle.std.specs.Prelude.{◌≡◌, ◌↔◌, List, ℤ, Option, Some, length, IsSome, MatchResult, Ok, Err};
 ghost use Rattle.tariff.specs.Sheets.{FigureList, figure_list, values_of};
 ghost use Rattle.tariff.specs.declared.figures.OwnFigures.{OwnFigures};
 
-use tariff::{Figures, OwnFigures};
+use tariff::{Figures, OwnFigures, Unsealed};
 
 /// A kind of sheet that is chosen at run time: which rate, or which rider.
 pub trait SheetKind: Copy {
     /// The draft of any such kind.
-    type Draft: Copy;
+    type Draft: Drop;
 
     ghost kind_of: { Self.Draft → Self };
 
@@ -53,4 +53,26 @@ pub trait SheetKind: Copy {
     ghost complete: { (kind : Self) (values : List ℤ) →
         IsSome (from_figures kind values) ↔
         (length values ≡ length (figures (published kind))) };
+}
+
+// What came of sealing: the sheet as `sheet` has it, or the refused draft as `back` has it.
+pub(crate) fn of_kind<S, D, T, E, F: FnOnce(S) -> T, G: FnOnce(D) -> E>(
+    sealing: Result<S, Unsealed<D>>,
+    sheet: F,
+    back: G,
+) -> Result<T, Unsealed<E>>
+    requires sheet { F.IsAlwaysCallable sheet }
+    requires back { G.IsAlwaysCallable back }
+    ensures { MatchResult sealing
+        (λ sealed. (made : T) × (result ≡ Ok made) × F.post sheet sealed made)
+        (λ unsealed. (draft : E) × (result ≡ Err (record { refusal = unsealed.refusal; draft = draft })) ×
+        G.post back unsealed.draft draft) }
+{
+    match sealing {
+        Ok(sealed) => Ok(sheet(sealed)),
+        Err(Unsealed { refusal, draft }) => Err(Unsealed {
+            refusal,
+            draft: back(draft),
+        }),
+    }
 }

@@ -3,12 +3,12 @@ ghost use Rattle.tariff.specs.Sheets.{IsFirstOutside};
 ghost use Rattle.piles.specs.Riders.{rider_amount, rider_draft, rider_figures, rider_from_figures, rider_kind, rider_line, rider_number, rider_own, rider_published};
 ghost use Rattle.piles.specs.RiderLaws.{rider_bounded, rider_complete, rider_given_back, rider_read_back};
 
-use crate::kind::SheetKind;
+use crate::kind::{SheetKind, of_kind};
 use riders::Adjustment;
 use riders::credit::{CreditDraft, CreditSheet};
 use riders::energy::{EnergyDraft, EnergySheet};
 use riders::percent::{PercentDraft, PercentSheet};
-use tariff::{Amounts, Draft, Facts, Figures, Fraction, Hours, Line, OwnFigures, Refusal};
+use tariff::{Amounts, Draft, Facts, Figures, Fraction, Hours, Line, OwnFigures, Unsealed};
 
 /// Which rider stands over a schedule.
 #[derive(Clone, Copy, PartialEq, Eq, Debug)]
@@ -85,7 +85,7 @@ impl SheetKind for RiderKind {
 }
 
 /// The draft of any rider.
-#[derive(Clone, Copy, PartialEq, Eq, Debug)]
+#[derive(PartialEq, Eq, Debug, Drop)]
 pub enum RiderDraft {
     /// So much for each MWh.
     Energy(EnergyDraft),
@@ -96,7 +96,7 @@ pub enum RiderDraft {
 }
 
 /// The sealed sheet of any rider, which adds as that rider does.
-#[derive(Clone, Copy)]
+#[derive(Drop)]
 pub enum RiderSheet {
     /// So much for each MWh.
     Energy(EnergySheet),
@@ -107,19 +107,32 @@ pub enum RiderSheet {
 }
 
 impl TryFrom<RiderDraft> for RiderSheet {
-    type Error = Refusal;
+    type Error = Unsealed<RiderDraft>;
 
-    // sealed as the draft of that rider is
+    // sealed as the draft of that rider is, or it comes back with its first figure outside named
     ghost try_from_gives = { λ draft result. MatchResult result
         (λ sheet. rider_draft sheet ≡ draft)
-        (IsFirstOutside (rider_figures draft)) };
+        (λ unsealed. (unsealed.draft ≡ draft) ×
+        IsFirstOutside (rider_figures draft) unsealed.refusal) };
 
-    fn try_from(draft: RiderDraft) -> Result<RiderSheet, Refusal> {
-        Ok(match draft {
-            RiderDraft::Energy(draft) => RiderSheet::Energy(draft.seal()?),
-            RiderDraft::Percent(draft) => RiderSheet::Percent(draft.seal()?),
-            RiderDraft::Credit(draft) => RiderSheet::Credit(draft.seal()?),
-        })
+    fn try_from(draft: RiderDraft) -> Result<RiderSheet, Unsealed<RiderDraft>> {
+        match draft {
+            RiderDraft::Energy(draft) => of_kind(
+                draft.seal(),
+                RiderSheet::Energy,
+                RiderDraft::Energy,
+            ),
+            RiderDraft::Percent(draft) => of_kind(
+                draft.seal(),
+                RiderSheet::Percent,
+                RiderDraft::Percent,
+            ),
+            RiderDraft::Credit(draft) => of_kind(
+                draft.seal(),
+                RiderSheet::Credit,
+                RiderDraft::Credit,
+            ),
+        }
     }
 }
 

@@ -123,7 +123,7 @@ fn run(rt: &HostRuntime) -> anyhow::Result<()> {
 }
 
 // Each entry by its number, as its line.
-fn print_ledger(rt: &HostRuntime, book: &Book<'_>) -> anyhow::Result<()> {
+fn print_ledger(rt: &HostRuntime, book: &Book<'_, '_, '_>) -> anyhow::Result<()> {
     let mut line = [0; MOST_BYTES];
     for entry in 0..u32::try_from(book.ledger().slice.len())? {
         let length = book.text(entry, &mut line)?;

@@ -1,3 +1,4 @@
 pub mod Numbers
 pub mod Parts
 pub mod Running
+pub mod Rounded

@@ -71,7 +71,7 @@ module _ (old quarters : List Quarter) (k days at : ℕ) (posted : List (Option 
   many =
       let all = length_stretch MONTH_QUARTERS k (quarters_of days) (map reading_of old)
       (rw length-map there) in
-      rw (length-map, length-map, all) below
+      simp (length-map, all) below
 
   peak_written : peak_in quarters k days ≡ top (sets kws at (map kw_of posted))
   unfolding kws

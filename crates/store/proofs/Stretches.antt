@@ -1,18 +1,17 @@
 -- Stretches of memory and the months in them, after writes.
-use Rattle.std.proofs.Common.{◌≡◌, ℕ, suc, ◌+◌, ◌-◌, ◌*◌, ◌<◌, ◌≤◌, ◌≢◌, List, [], ◌∷◌, ◌++◌, map, length, get_or, take, drop, set, replicate, sym, refl, ap, ◌∙◌, inl, inr, add-suc, mul-le-mul_left, mul-add, arith, length-drop, length-take}
+use Rattle.std.proofs.Common.{◌≡◌, ℕ, suc, ◌+◌, ◌-◌, ◌*◌, ◌<◌, ◌≤◌, ◌≢◌, List, [], ◌∷◌, ◌++◌, map, length, get_or, take, drop, set, replicate, sym, refl, ap, ◌∙◌, inl, inr, add-suc, add-zero, mul-le-mul_left, mul-add, arith, length-drop, length-take}
 use borrow.Rule.Slice.PartMut.{put_mid}
 use lib.Seq.{sets, length-sets}
 use Rattle.std.specs.List.{range_with_len}
 use Rattle.std.proofs.Math.Seq.{take-set-lt}
 use Rattle.std.proofs.lemmas.List.FromFn.{get_or-map-range_with_len, length-map-range_with_len, map-range_with_len_more}
 use Rattle.std.proofs.lemmas.List.Edits.{paste_all, sets-eq}
-use Rattle.std.proofs.lemmas.List.{append_assoc, append-nil, drop_all, drop-map, drop-set-add, drop-set-lt, take-set-le, ext_get_or, get_or-drop, get_or-take, get_or-set_other, get_or-set_same, length-map, length-replicate, length-set, map-append, same_lists, take-map}
+use Rattle.std.proofs.lemmas.List.{append_assoc, append-nil, drop_all, drop-drop, drop-map, drop-set-add, drop-set-lt, take-append-drop, take-set-le, ext_get_or, get_or-drop, get_or-take, get_or-set_other, get_or-set_same, length-map, length-replicate, length-set, map-append, same_lists, take-map}
 use Rattle.std.proofs.lemmas.Slice.{put_mid-paste}
 use Rattle.std.proofs.lemmas.Bool.{cases_eq, cases_lt}
 use Rattle.store.specs.Months.{Month, months_with, no_month}
 use Rattle.store.specs.Records.{stretch}
-use Rattle.store.specs.Stores.{month_of, months_of}
-use Rattle.store.specs.declared.store.Store.{Store}
+use Rattle.store.specs.Stores.{Filed, month_of, months_of}
 
 -- ---- stretches
 
@@ -79,6 +78,39 @@ module _ {X : Type 0} where
       rw (← add-suc (room * k) at)
       (more ∙ ap (λ ys. sets ys (suc at) vs) (stretch_set room k n xs at v (omega arith)))
 
+  -- one place more, behind those written in a row
+  pub sets_push : (xs : List X) (at : ℕ) (vs : List X) (v : X)
+      → sets xs at (vs ++ v ∷ []) ≡ set (sets xs at vs) (at + length vs) v
+  sets_push xs at [] v = ap (λ i. set xs i v) (sym (add-zero at))
+  sets_push xs at (w ∷ vs) v =
+      let place : suc at + length vs ≡ at + suc (length vs) = omega arith in
+      sets_push (set xs at w) (suc at) vs v ∙ ap (λ i. set (sets (set xs at w) (suc at) vs) i v) place
+
+  -- a part written within a stretch of a list, as the whole list has it
+  set_between : (xs : List X) (a n at : ℕ) (vs : List X) → at + length vs ≤ n
+      → take a xs ++ (sets (take n (drop a xs)) at vs ++ drop (a + n) xs) ≡ sets xs (a + at) vs
+  set_between xs a n at [] fits =
+      ap (λ rest. take a xs ++ (take n (drop a xs) ++ rest)) (sym (drop-drop n a xs))
+      ∙ ap (λ rest. take a xs ++ rest) (take-append-drop n (drop a xs)) ∙ take-append-drop a xs
+  set_between xs a n at (v ∷ vs) fits =
+      let new = set xs (a + at) v in
+      let front : take a new ≡ take a xs = take-set-le a xs (a + at) v (omega arith) in
+      let part : take n (drop a new) ≡ set (take n (drop a xs)) at v =
+      ap (take n) (drop-set-add a xs at v) ∙ take-set-lt n (drop a xs) at v (omega arith) in
+      let rest : drop (a + n) new ≡ drop (a + n) xs = drop-set-lt (a + n) xs (a + at) v (omega arith) in
+      let more = set_between new a n (suc at) vs (omega arith) in
+      rw (← front, ← part, ← rest, ← add-suc a at) more
+
+  pub sets_within : (xs : List X) (a n at : ℕ) (vs : List X) → at + length vs ≤ n → a + n ≤ length xs
+      → sets xs a (sets (take n (drop a xs)) at vs) ≡ sets xs (a + at) vs
+  sets_within xs a n at vs fits there =
+      let part = take n (drop a xs) in
+      let many : length (sets part at vs) ≡ n = length-sets part at vs
+      ∙ simp (length-take, length-drop) (omega arith) in
+      sets-eq (sets part at vs) xs a (omega (arith, many))
+      ∙ append_assoc (take a xs) (sets part at vs) _
+      ∙ ap (λ k. take a xs ++ (sets part at vs ++ drop (a + k) xs)) many ∙ set_between xs a n at vs fits
+
   pub sets_all : (xs vs : List X) → length vs ≡ length xs → sets xs 0 vs ≡ vs
   sets_all xs vs many =
       sets-eq vs xs 0 (omega arith) ∙ ap (λ ys. vs ++ ys) (drop_all (0 + length vs) xs (omega arith))
@@ -112,15 +144,15 @@ same_length f xs ys a vs written = sym (length-map ys f) ∙ ap length written �
 
 -- ---- months
 
-pub length_months : (s : Store) → length (months_of s) ≡ s.started
+pub length_months : (s : Filed) → length (months_of s) ≡ s.started
 unfolding months_of
 length_months s = length-map-range_with_len (month_of s) 0 s.started
 
-pub get_or_months : (s : Store) (k : ℕ) (d : Month) → k < s.started → get_or (months_of s) k d ≡ month_of s k
+pub get_or_months : (s : Filed) (k : ℕ) (d : Month) → k < s.started → get_or (months_of s) k d ≡ month_of s k
 unfolding months_of
 get_or_months s k d below = get_or-map-range_with_len (month_of s) 0 s.started k k d below (omega arith)
 
-pub months_same : (s t : Store) → t.started ≡ s.started
+pub months_same : (s t : Filed) → t.started ≡ s.started
     → ((j : ℕ) → j < s.started → month_of t j ≡ month_of s j) → months_of t ≡ months_of s
 months_same s t started same =
     ext_get_or no_month _ _ (length_months t ∙ started ∙ sym (length_months s)) (λ j h.
@@ -128,7 +160,7 @@ months_same s t started same =
     get_or_months t j no_month (omega arith) ∙ same j below ∙ sym (get_or_months s j no_month below))
 
 -- one month altered, and none past the last
-pub months_altered : (s t : Store) (k : ℕ) (alter : Month → Month) → t.started ≡ s.started → k < s.started
+pub months_altered : (s t : Filed) (k : ℕ) (alter : Month → Month) → t.started ≡ s.started → k < s.started
     → month_of t k ≡ alter (month_of s k) → ((j : ℕ) → j < s.started → j ≢ k → month_of t j ≡ month_of s j)
     → months_of t ≡ months_with k alter (months_of s)
 months_altered s t k alter started there own others =
@@ -159,7 +191,7 @@ counted_same f g n same =
     get_or-map-range_with_len f 0 n j j d below (omega arith) ∙ same j below
     ∙ sym (get_or-map-range_with_len g 0 n j j d below (omega arith)))
 
-pub months_pushed : (s t : Store) (month : Month) → t.started ≡ s.started + 1
+pub months_pushed : (s t : Filed) (month : Month) → t.started ≡ s.started + 1
     → month_of t s.started ≡ month → ((j : ℕ) → j < s.started → month_of t j ≡ month_of s j)
     → months_of t ≡ months_of s ++ month ∷ []
 unfolding months_of

@@ -14,15 +14,14 @@ use Rattle.store.specs.Months.{Month, ratchet_peak, first_short_month, new_month
 use Rattle.store.specs.declared.carried.TheConstants.{RATCHET}
 use Rattle.store.specs.declared.memory.TheConstants.{MONTH_HOURS, MONTH_QUARTERS}
 use Rattle.store.specs.Records.{first_record, hour_of, peak_in, reading_of, record_in, stretch}
-use Rattle.store.specs.Stores.{earlier_peaks_of, month_of, months_of}
+use Rattle.store.specs.Stores.{earlier_peaks_of, Filed, month_of, months_of}
 use Rattle.store.specs.declared.month.TheConstants.{MOST_DAYS}
 use Rattle.store.specs.declared.month.MonthRecord.{MonthRecord}
 use Rattle.store.specs.declared.month.State.{State}
-use Rattle.store.specs.declared.store.Store.{Store}
 use Rattle.store.proofs.Stretches.{get_or_months, length_months}
 use Rattle.store.proofs.Windows.{leading_map, part_counted, take_counted, take_two, window}
 
-module _ (store : Store) where
+module _ (store : Filed) where
   pub month_past : (k : ℕ) → store.started ≤ k → get_or (months_of store) k no_month ≡ no_month
   month_past k past = get_or_past (months_of store) k no_month (rw (length_months store) past)
 
@@ -53,7 +52,7 @@ module _ (store : Store) where
   -- the stretches of a month are its readings and its hours; past the last month there is none
   pub readings_read : (k : ℕ)
       → map reading_of (stretch MONTH_QUARTERS k
-      (quarters_of (get_or (months_of store) k no_month).days) store.memory.quarters.now)
+      (quarters_of (get_or (months_of store) k no_month).days) store.quarters)
       ≡ (get_or (months_of store) k no_month).readings
   unfolding month_of no_month new_month stretch
   readings_read k =
@@ -64,7 +63,7 @@ module _ (store : Store) where
 
   pub hours_read : (k : ℕ)
       → map hour_of (stretch MONTH_HOURS k
-      (hours_of (get_or (months_of store) k no_month).days) store.memory.hours.now)
+      (hours_of (get_or (months_of store) k no_month).days) store.hours)
       ≡ (get_or (months_of store) k no_month).hours
   unfolding month_of no_month new_month stretch
   hours_read k =

@@ -1,12 +1,12 @@
 -- Parts of memory and of the records, place by place.
-use Rattle.std.proofs.Common.{◌≡◌, ℕ, ◌+◌, ◌-◌, ◌<◌, ◌≤◌, min, Bool, not, ltb, cond, Some, None, Option, List, [], ◌∷◌, ◌++◌, map, length, get_or, take, drop, sym, refl, ap, ⊎_elim, arith}
+use Rattle.std.proofs.Common.{◌≡◌, ℕ, ◌+◌, ◌-◌, ◌<◌, ◌≤◌, min, Bool, true, not, ltb, cond, Some, None, Option, List, [], ◌∷◌, ◌++◌, map, length, get_or, take, drop, sym, refl, ap, ◌∙◌, ⊎_elim, arith}
 use Rattle.std.specs.Prelude.{MatchOption}
 use Rattle.std.specs.List.{position, prefix_len, range_with_len}
 use Rattle.std.proofs.Math.Bool.{not-not}
-use Rattle.std.proofs.lemmas.List.Sums.{prefix_len-le-length}
+use Rattle.std.proofs.lemmas.List.Sums.{prefix_len-drop_no, prefix_len-le-length}
 use Rattle.std.proofs.lemmas.List.FromFn.{length-map-range_with_len, take-map-range_with_len, fill_by_all}
 use Rattle.std.proofs.lemmas.List.{get_or-take, get_or-drop, length-map, length-take-le, length-drop, drop-take, take_all, take-append-drop, take-take}
-use Rattle.std.proofs.lemmas.Bool.{cases_lt, cond_both, ltb-false, ltb-true}
+use Rattle.std.proofs.lemmas.Bool.{cases_lt, cond_both, cond-false, cond-true, le-ltb, lt-ltb, ltb-false, ltb-true}
 
 -- the first that fails a test, of a list that was made from another
 pub leading_map : {X Y : Type 0} (p : Y → Bool) (f : X → Y) (xs : List X)
@@ -34,6 +34,18 @@ position_fails p xs found is =
     rw (is, leading_not p xs)
     (cond_both (ltb n (length xs)) (Some n) None Fails (λ less. (refl, ltb-true n (length xs) less))
     (λ more. omega (arith, ltb-false n (length xs) more)))
+
+-- a search from the front that has come to place i
+module _ {X : Type 0} (p : X → Bool) (xs : List X) (i : ℕ)
+    (searched : prefix_len (λ x. not (p x)) xs ≡ i + prefix_len (λ x. not (p x)) (drop i xs)) where
+  pub position_found : (d : X) → i < length xs → p (get_or xs i d) ≡ true → Some i ≡ position p xs
+  position_found d here passes =
+      let first : prefix_len (λ x. not (p x)) xs ≡ i =
+      omega (arith, searched, prefix_len-drop_no (λ x. not (p x)) xs i d here (ap not passes)) in
+      ap Some (sym first) ∙ sym (cond-true _ _ _ (lt-ltb _ (length xs) (omega (arith, first, here))))
+
+  pub position_passed : length xs ≤ i → None ≡ position p xs
+  position_passed past = sym (cond-false _ _ _ (le-ltb _ (length xs) (omega (arith, searched, past))))
 
 -- a part of a list, place by place
 pub part_counted : {X : Type 0} (xs : List X) (a n : ℕ) (d : X) → a + n ≤ length xs

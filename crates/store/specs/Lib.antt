@@ -1,3 +1,4 @@
+pub mod Constants
 pub mod Facts
 pub mod Months
 pub mod Posts

@@ -1,5 +1,5 @@
 -- A month on file: what was posted for it, the state that it is in, and what follows from it.
-use Rattle.std.specs.Prelude.{ℕ, ◌+◌, ◌-◌, ◌*◌, max, Bool, true, false, ◌&&◌, List, [], ◌∷◌, ◌++◌, map, length, take, drop, replicate, is_none, Some, None, Option, option_map, nat_le, slice_index, slice_index_or, slice_set, unwrap_or}
+use Rattle.std.specs.Prelude.{ℕ, ◌+◌, ◌-◌, ◌*◌, max, Bool, true, false, ◌&&◌, List, [], ◌∷◌, ◌++◌, map, length, take, drop, replicate, is_none, Some, None, Option, option_map, if◌then◌else◌, nat_le, slice_index, slice_index_or, slice_set, unwrap_or}
 use Rattle.std.specs.Option.{option_or}
 use Rattle.std.specs.List.{position, prefix_len, range_with_len}
 use Rattle.tariff.specs.Limits.{most_demand}
@@ -54,8 +54,20 @@ new_month days = record {
 unfoldable pub no_month : Month
 no_month = new_month 0
 
+-- the states in their order
+abbrev pub has_reached : State → State → Bool
+has_reached Open state = true
+has_reached Billed Open = false
+has_reached Billed _ = true
+has_reached Final Final = true
+has_reached Final _ = false
+
 abbrev pub with_state : State → Month → Month
 with_state state month = record month { state = state }
+
+-- a month that is taken on to a state; one that has come as far stays as it is
+abbrev pub advanced : State → Month → Month
+advanced state month = if has_reached state month.state then month else with_state state month
 
 -- one month of several altered, by its place from 0
 abbrev pub months_with : ℕ → (Month → Month) → List Month → List Month
@@ -121,14 +133,6 @@ ratchet_peak before months k = top (take RATCHET (drop k (before ++ map peak mon
 -- at most 24 carried peaks, each a demand
 abbrev pub can_carry : List ℕ → Bool
 can_carry carried = nat_le (length carried) RATCHET && nat_le (top carried) most_demand
-
--- the states in their order
-abbrev pub has_reached : State → State → Bool
-has_reached Open state = true
-has_reached Billed Open = false
-has_reached Billed _ = true
-has_reached Final Final = true
-has_reached Final _ = false
 
 -- the first of the months before place k that has not reached a state; k where all have
 abbrev pub first_short_month : State → List Month → ℕ → ℕ

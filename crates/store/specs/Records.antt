@@ -1,14 +1,15 @@
 -- The months that a store's memory and records hold.
-use Rattle.std.specs.Prelude.{◌≡◌, ℕ, ◌+◌, ◌*◌, ◌<◌, if◌then◌else◌, List, map, take, drop, Some, None, Option, nat_le, slice_index_or}
+use Rattle.std.specs.Prelude.{◌≡◌, ℕ, ◌+◌, ◌*◌, ◌<◌, ◌≤◌, if◌then◌else◌, List, length, map, take, drop, Some, None, Option, nat_le, slice_index_or}
 use Rattle.std.proofs.Common.{lit≤}
 use Rattle.tariff.specs.declared.limits.TheConstants.{MOST_PRICE}
 use Rattle.store.specs.Months.{HourOnFile, quarters_of, kw_of, top}
 use Rattle.store.specs.declared.carried.TheConstants.{RATCHET}
-use Rattle.store.specs.declared.memory.TheConstants.{MONTH_QUARTERS}
+use Rattle.store.specs.declared.memory.TheConstants.{MONTH_HOURS, MONTH_QUARTERS}
 use Rattle.store.specs.declared.memory.Quarter.{Quarter}
 use Rattle.store.specs.declared.memory.Hour.{Hour}
 use Rattle.store.specs.declared.month.TheConstants.{LEAST_DAYS}
 use Rattle.store.specs.declared.month.MonthRecord.{MonthRecord}
+use Rattle.store.specs.declared.month.MonthRecords.{MonthRecords}
 use Rattle.store.specs.declared.month.State.TheVariants.{Open}
 use Rattle.store.specs.declared.post.Reading.{Reading}
 
@@ -45,3 +46,10 @@ record_in records k = slice_index_or records (RATCHET + k) first_record
 abbrev pub KeepsPeaks : List MonthRecord → ℕ → List Quarter → Type 0
 KeepsPeaks records started quarters =
     (k : ℕ) → k < started → (record_in records k).peak ≡ peak_in quarters k (record_in records k).days
+
+-- lent memory has room for each started month, and their peaks are kept
+abbrev pub Keeps : MonthRecords → List Quarter → List Hour → Type 0
+Keeps months quarters hours =
+    (MONTH_QUARTERS * months.started ≤ length quarters)
+    × (MONTH_HOURS * months.started ≤ length hours)
+    × KeepsPeaks months.records months.started quarters

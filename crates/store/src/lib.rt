@@ -11,10 +11,11 @@ mod post;
 mod rank;
 mod report;
 mod store;
+mod stretch;
 
 pub use carried::{CannotCarry, RATCHET};
 pub use memory::{DAY_HOURS, DAY_QUARTERS, Hour, MONTH_HOURS, MONTH_QUARTERS, Quarter};
-pub use month::{LEAST_DAYS, MOST_DAYS, MonthRecord, State};
+pub use month::{LEAST_DAYS, MOST_DAYS, MOST_MONTHS, MonthRecord, MonthRecords, State};
 pub use post::{Post, PostError, Reading};
-pub use report::{Missing, MonthHours};
-pub use store::{MOST_MONTHS, Store};
+pub use report::{Missing, MonthHours, MonthsOnFile};
+pub use store::Store;

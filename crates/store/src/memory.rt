@@ -1,13 +1,10 @@
 // The lent memory of a store: its quarters and its hours. Their limits are in their types, so that
 // whatever stands in the memory can be priced.
-ghost use Rattle.std.specs.Prelude.{◌≡◌, ◌+◌, ◌*◌, ◌<◌, ◌≤◌, map, drop, length, replicate, take, Some, None, true};
-ghost use Rattle.std.proofs.lemmas.List.Edits.{sets};
+ghost use Rattle.std.specs.Prelude.{◌≡◌, ◌≤◌, Some, None, true};
 ghost use Rattle.tariff.specs.Limits.{most_demand};
-ghost use Rattle.std.specs.List.{prefix_len};
 
 use crate::month::MOST_DAYS;
 use crate::post::Reading;
-use crate::rank::{Kw, highest_of};
 use tariff::MOST_PRICE;
 
 /// The quarters of a day.
@@ -48,6 +45,15 @@ impl Quarter {
     /// A quarter that has no reading, to fill memory with before it is lent.
     pub const NEVER_POSTED: Quarter = Quarter { kw: 1, kva: 0 };
 
+    /// [`Quarter::NEVER_POSTED`].
+    pub fn never_posted() -> Quarter
+        ensures none { reading_of result ≡ None }
+        ensures kw { result.kw ≡ 1 }
+        ensures kva { result.kva ≡ 0 }
+    {
+        Quarter::NEVER_POSTED
+    }
+
     // With a reading that was found within its limits.
     pub(crate) fn holding(reading: Reading) -> Quarter
         requires { reading_within reading ≡ true }
@@ -85,6 +91,7 @@ impl Quarter {
 }
 
 impl Hour {
+    ghost use Rattle.store.specs.Months.{new_hour};
     ghost use Rattle.store.specs.Records.{hour_of};
 
     /// An hour that has no price and nothing scheduled, to fill memory with before it is lent.
@@ -93,122 +100,17 @@ impl Hour {
         scheduled: 0,
     };
 
+    /// [`Hour::NEVER_POSTED`].
+    pub fn never_posted() -> Hour
+        ensures none { hour_of result ≡ new_hour }
+        ensures price { result.price ≡ 100000 }
+    {
+        Hour::NEVER_POSTED
+    }
+
     pub(crate) fn price(&self) -> Option<u32>
         ensures { result ≡ (hour_of self.now).price }
     {
         (self.price <= MOST_PRICE).then_some(self.price)
-    }
-}
-
-#[derive(Drop)]
-pub(crate) struct Memory<'a> {
-    pub(crate) quarters: &'a mut [Quarter],
-    pub(crate) hours: &'a mut [Hour],
-}
-
-impl Memory<'_> {
-    ghost use Rattle.store.specs.Months.{hours_of, kw_of, new_hour, quarters_of, top};
-    ghost use Rattle.store.specs.Posts.{reading_within};
-    ghost use Rattle.store.specs.Records.{hour_of, peak_in, reading_of, stretch};
-
-    // The first `n` items of the month at place `k` in a memory where each month has `room`.
-    pub(crate) fn stretch<T>(memory: &[T], room: usize, k: usize, n: usize) -> &[T]
-        requires { room * k + n ≤ length memory.now }
-        ensures { result.now ≡ stretch room k n memory.now }
-    {
-        let from = room * k;
-        &memory[from..from + n]
-    }
-
-    // Readings, over as many quarters.
-    fn write_over(quarters: &mut [Quarter], readings: &[Reading])
-        requires counted { length quarters.old ≡ length readings.now }
-        requires within { prefix_len reading_within readings.now ≡ length readings.now }
-        ensures { map reading_of quarters.new ≡ map Some readings.now }
-    {
-        for (i, reading) in readings.iter().enumerate() {
-            quarters[i] = Quarter::holding(*reading);
-        }
-    }
-
-    // The highest kW of the month at place `k`, of so many days.
-    pub(crate) fn peak(&self, k: usize, days: usize) -> u32
-        requires { MONTH_QUARTERS * k + quarters_of days ≤ length self.now.quarters.now }
-        ensures counted { result ≡ peak_in self.now.quarters.now k days }
-        ensures within { result ≤ most_demand }
-    {
-        let month = Memory::stretch(self.quarters, MONTH_QUARTERS, k, DAY_QUARTERS * days);
-        highest_of::<Quarter, Kw>(month)
-    }
-
-    // The highest kW of `n` quarters from a place on.
-    pub(crate) fn part_peak(&self, first: usize, n: usize) -> u32
-        requires { first + n ≤ length self.now.quarters.now }
-        ensures counted { result
-            ≡ top (map kw_of (take n (drop first (map reading_of self.now.quarters.now)))) }
-        ensures within { result ≤ most_demand }
-    {
-        highest_of::<Quarter, Kw>(&self.quarters[first..first + n])
-    }
-
-    // The highest kW of the month at place `k`, of so many days, now that a part of it was written
-    // over: of what it was, and what that of the part was before and is. Only a part that lost the
-    // month's highest has the month searched again.
-    pub(crate) fn peak_after(
-        &self,
-        k: usize,
-        days: usize,
-        kept: u32,
-        before: u32,
-        posted: u32,
-    ) -> u32
-        requires in_bounds { MONTH_QUARTERS * k + quarters_of days ≤ length self.now.quarters.now }
-        requires kept_within { kept ≤ most_demand }
-        requires posted_within { posted ≤ most_demand }
-        requires over { kept ≤ posted → peak_in self.now.quarters.now k days ≡ posted }
-        requires under { before < kept → posted < kept
-            → peak_in self.now.quarters.now k days ≡ kept }
-        ensures counted { result ≡ peak_in self.now.quarters.now k days }
-        ensures within { result ≤ most_demand }
-    {
-        if posted >= kept {
-            posted
-        } else if before < kept {
-            kept
-        } else {
-            self.peak(k, days)
-        }
-    }
-
-    // Readings, over as many quarters from a place on.
-    pub(crate) fn write(&mut self, first: usize, readings: &[Reading])
-        requires there { first + length readings.now ≤ length self.old.quarters.now }
-        requires within { prefix_len reading_within readings.now ≡ length readings.now }
-        ensures quarters { map reading_of self.new.quarters.now
-            ≡ sets (map reading_of self.old.quarters.now) first (map Some readings.now) }
-        ensures size { length self.new.quarters.now ≡ length self.old.quarters.now }
-        ensures hours { self.new.hours.now ≡ self.old.hours.now }
-    {
-        Memory::write_over(&mut self.quarters[first..first + readings.len()], readings);
-    }
-
-    // Marks the quarters and the hours of the month at place `k`, of so many days, as never posted.
-    pub(crate) fn clear(&mut self, k: usize, days: usize)
-        requires quarters_there { MONTH_QUARTERS * k + quarters_of days
-            ≤ length self.old.quarters.now }
-        requires hours_there { MONTH_HOURS * k + hours_of days ≤ length self.old.hours.now }
-        ensures quarters { map reading_of self.new.quarters.now
-            ≡ sets (map reading_of self.old.quarters.now) (MONTH_QUARTERS * k)
-            (replicate (quarters_of days) None) }
-        ensures hours { map hour_of self.new.hours.now
-            ≡ sets (map hour_of self.old.hours.now) (MONTH_HOURS * k)
-            (replicate (hours_of days) new_hour) }
-        ensures quarters_size { length self.new.quarters.now ≡ length self.old.quarters.now }
-        ensures hours_size { length self.new.hours.now ≡ length self.old.hours.now }
-    {
-        let quarter = MONTH_QUARTERS * k;
-        let hour = MONTH_HOURS * k;
-        self.quarters[quarter..quarter + DAY_QUARTERS * days].fill(Quarter::NEVER_POSTED);
-        self.hours[hour..hour + DAY_HOURS * days].fill(Hour::NEVER_POSTED);
     }
 }

@@ -1,7 +1,15 @@
 // A month on file beside the lent memory.
-ghost use Rattle.std.specs.Prelude.{◌≡◌, ◌≤◌};
+ghost use Rattle.std.specs.Prelude.{◌≡◌, ◌≤◌, length};
 ghost use Rattle.tariff.specs.Limits.{most_demand};
-ghost use Rattle.store.specs.declared.month.TheConstants.{LEAST_DAYS, MOST_DAYS};
+ghost use Rattle.store.specs.declared.month.TheConstants.{LEAST_DAYS, MOST_DAYS, MOST_MONTHS, RECORDS};
+
+use crate::carried::RATCHET;
+
+/// How many months a store holds at the most.
+pub const MOST_MONTHS: usize = 48;
+
+// The records of the months that the ratchet looks back before month 1, and of the store's own.
+pub(crate) const RECORDS: usize = RATCHET + MOST_MONTHS;
 
 /// The days of the shortest month.
 pub const LEAST_DAYS: u32 = 28;
@@ -23,7 +31,7 @@ pub enum State {
 impl State {
     ghost use Rattle.store.specs.Months.{has_reached};
 
-    /// Whether a month in this state has come as far as another.
+    /// Whether this state is the given one, or a later one.
     pub fn has_reached(self, state: State) -> bool
         ensures { result ≡ has_reached state self }
     {
@@ -51,4 +59,32 @@ impl MonthRecord {
         state: State::Open,
         peak: 0,
     };
+}
+
+/// What is kept of the months of a store beside the lent memory: a record of each that is started,
+/// and the peaks of the 24 months before month 1.
+#[derive(Clone, Copy)]
+pub struct MonthRecords {
+    // those of the 24 months before month 1, the oldest first, and then of the store's own
+    pub(crate) records: [MonthRecord; RECORDS],
+    pub(crate) started: usize,
+    ghost recorded: { length records ≡ RECORDS },
+    ghost few: { started ≤ MOST_MONTHS },
+}
+
+impl MonthRecords {
+    ghost use Rattle.store.specs.Constants.{Constants};
+    ghost use Rattle.store.specs.Stores.{HasNone};
+
+    /// Those of a store in which no month is started yet, with peaks of 0 kW for the 24 months
+    /// before month 1.
+    pub fn none() -> MonthRecords
+        ensures none { HasNone result }
+        ensures constants { Constants }
+    {
+        MonthRecords {
+            records: [MonthRecord::UNSTARTED; RECORDS],
+            started: 0,
+        }
+    }
 }

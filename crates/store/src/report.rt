@@ -1,17 +1,17 @@
 // What is told of the months on file.
-ghost use Rattle.std.specs.Prelude.{◌≡◌, ℕ, ◌+◌, ◌*◌, ◌<◌, ◌≤◌, [], map, min, length, take, ◌↔◌, is_none, IfSome, IsSome, MatchOption, slice_index_or};
+ghost use Rattle.std.specs.Prelude.{◌≡◌, ℕ, ◌+◌, ◌*◌, ◌<◌, ◌≤◌, [], map, min, drop, length, take, ◌↔◌, is_none, IfSome, IsSome, MatchOption, slice_index_or};
 ghost use Rattle.std.specs.List.{position, range_with_len};
 ghost use Rattle.tariff.specs.Limits.{HourWithin, RowsWithin, most_hours, no_row};
 ghost use Rattle.tariff.specs.declared.limits.TheConstants.{MOST_ENERGY};
 ghost use Rattle.store.specs.declared.month.TheConstants.{MOST_DAYS};
 ghost use Rattle.store.specs.Months.{hour_row};
-ghost use Rattle.store.specs.Records.{hour_of, reading_of, stretch};
+ghost use Rattle.store.specs.Records.{Keeps, hour_of, reading_of, stretch};
 
 use crate::carried::RATCHET;
-use crate::memory::{DAY_HOURS, DAY_QUARTERS, Hour, MONTH_HOURS, MONTH_QUARTERS, Memory, Quarter};
-use crate::month::{MonthRecord, State};
+use crate::memory::{DAY_HOURS, DAY_QUARTERS, Hour, MONTH_HOURS, MONTH_QUARTERS, Quarter};
+use crate::month::{MonthRecord, MonthRecords, State};
 use crate::rank::{Kva, Peak, highest_of};
-use crate::store::Store;
+use crate::stretch::stretch;
 use tariff::{Capacities, Facts, HourRow, Hours, PlainFacts};
 
 // An hour without a price is named by its place past this, which no quarter reaches.
@@ -108,58 +108,117 @@ fn fill_rows(rows: &mut [HourRow], quarters: &[Quarter], hours: &[Hour])
     }
 }
 
-impl Store<'_> {
+/// The months in the lent memory, as they are read. Months are named by their place from 0.
+#[derive(Clone, Copy)]
+pub struct MonthsOnFile<'a> {
+    /// The quarters: that at place `q` of the month at place `k` is the record 2,976 × `k` + `q`.
+    pub quarters: &'a [Quarter],
+    /// The hours: that at place `h` of the month at place `k` is the record 744 × `k` + `h`.
+    pub hours: &'a [Hour],
+    /// The records of its months.
+    pub months: &'a MonthRecords,
+    ghost kept: { Keeps months.now quarters.now hours.now },
+}
+
+impl MonthsOnFile<'_> {
     ghost use Rattle.store.specs.Facts.{facts_of_month};
-    ghost use Rattle.store.specs.Months.{first_missing, first_short_month, hour_rows, quarters_of, hours_of};
+    ghost use Rattle.store.specs.Months.{first_missing, first_short_month, hour_rows, peak, quarters_of, hours_of};
+    ghost use Rattle.store.specs.Records.{record_in};
     ghost use Rattle.store.specs.Rows.{rows_in};
-    ghost use Rattle.store.specs.Stores.{earlier_peaks_of, month_in, months_of};
+    ghost use Rattle.store.specs.Stores.{earlier_peaks_of, filed_in, month_in, months_of};
+
+    // The records of the months on file.
+    fn records(&self) -> &[MonthRecord]
+        ensures { result.now ≡ take self.now.months.now.started
+            (drop RATCHET self.now.months.now.records) }
+    {
+        let records = &self.months.records[..];
+        &records[RATCHET..RATCHET + self.months.started]
+    }
+
+    // The record of the month at place `k`, as the store keeps it.
+    fn month(&self, k: usize) -> Option<MonthRecord>
+        ensures { MatchOption result (self.now.months.now.started ≤ k)
+            (λ month. (k < self.now.months.now.started)
+            × (month ≡ record_in self.now.months.now.records k)) }
+    {
+        self.records().get(k).copied()
+    }
+
+    // The days of the month at place `k`, 0 past the last month, which has no quarter and no hour.
+    pub(crate) fn days_of(&self, k: usize) -> usize
+        ensures read { result ≡ (month_in (filed_in self.now) k).days }
+        ensures within { result ≤ MOST_DAYS }
+        ensures there { 0 < result → k < self.now.months.now.started }
+        ensures recorded { 0 < result
+            → result ≡ (record_in self.now.months.now.records k).days }
+    {
+        self.record(k).map_or(0, |month| month.days as usize)
+    }
+
+    /// The record of the month at place `k`; `None` past the last month.
+    pub fn record(&self, k: usize) -> Option<MonthRecord>
+        ensures there { IsSome result ↔ (k < length (months_of (filed_in self.now))) }
+        ensures days { IfSome result (λ month. month.days ≡ (month_in (filed_in self.now) k).days) }
+        ensures state { IfSome result
+            (λ month. month.state ≡ (month_in (filed_in self.now) k).state) }
+        ensures peak { IfSome result
+            (λ month. month.peak ≡ peak (month_in (filed_in self.now) k)) }
+    {
+        self.month(k)
+    }
 
     // What a memory, with room for each month and so many items a day, has of the month at place
     // `k`; none where it is not on file.
     fn on_file<'m, T>(&self, memory: &'m [T], room: usize, a_day: usize, k: usize) -> &'m [T]
-        requires held { room * self.now.started ≤ length memory.now }
+        requires held { room * self.now.months.now.started ≤ length memory.now }
         requires fits { a_day * MOST_DAYS ≤ room }
-        ensures read { result.now ≡ stretch room k (a_day * (month_in self.now k).days) memory.now }
-        ensures counted { length result.now ≡ a_day * (month_in self.now k).days }
+        ensures read { result.now
+            ≡ stretch room k (a_day * (month_in (filed_in self.now) k).days) memory.now }
+        ensures counted { length result.now ≡ a_day * (month_in (filed_in self.now) k).days }
         ensures few { length result.now ≤ a_day * MOST_DAYS }
     {
         match self.month(k) {
-            Some(month) => Memory::stretch(memory, room, k, a_day * month.days as usize),
+            Some(month) => stretch(memory, room, k, a_day * month.days as usize),
             None => &[],
         }
     }
 
     // Its quarters.
-    fn quarters(&self, k: usize) -> &[Quarter]
-        ensures read { map reading_of result.now ≡ (month_in self.now k).readings }
-        ensures counted { length result.now ≡ quarters_of (month_in self.now k).days }
+    fn readings(&self, k: usize) -> &[Quarter]
+        ensures read { map reading_of result.now ≡ (month_in (filed_in self.now) k).readings }
+        ensures counted { length result.now ≡ quarters_of (month_in (filed_in self.now) k).days }
         ensures few { length result.now ≤ MONTH_QUARTERS }
     {
-        self.on_file(self.memory.quarters, MONTH_QUARTERS, DAY_QUARTERS, k)
+        self.on_file(self.quarters, MONTH_QUARTERS, DAY_QUARTERS, k)
     }
 
     // Its hours.
     fn hours_on_file(&self, k: usize) -> &[Hour]
-        ensures read { map hour_of result.now ≡ (month_in self.now k).hours }
-        ensures counted { length result.now ≡ hours_of (month_in self.now k).days }
+        ensures read { map hour_of result.now ≡ (month_in (filed_in self.now) k).hours }
+        ensures counted { length result.now ≡ hours_of (month_in (filed_in self.now) k).days }
         ensures few { length result.now ≤ MONTH_HOURS }
     {
-        self.on_file(self.memory.hours, MONTH_HOURS, DAY_HOURS, k)
+        self.on_file(self.hours, MONTH_HOURS, DAY_HOURS, k)
     }
 
     // The first quarter of the month at place `k` that has no reading.
     fn unread(&self, k: usize) -> Option<usize>
-        ensures first { result ≡ position is_none (month_in self.now k).readings }
+        ensures first { result ≡ position is_none (month_in (filed_in self.now) k).readings }
         ensures within { IfSome result (λ quarter. quarter < MONTH_QUARTERS) }
     {
-        self.quarters(k)
-            .iter()
-            .position(|quarter| quarter.reading().is_none())
+        for (quarter, record) in self.readings(k).iter().enumerate() {
+            if record.reading().is_none() {
+                return Some(quarter);
+            }
+        }
+        None
     }
 
     // Its first hour that has no price.
     fn unpriced(&self, k: usize) -> Option<usize>
-        ensures first { result ≡ position (λ hour. is_none hour.price) (month_in self.now k).hours }
+        ensures first { result
+            ≡ position (λ hour. is_none hour.price) (month_in (filed_in self.now) k).hours }
         ensures within { IfSome result (λ hour. hour < MONTH_HOURS) }
     {
         self.hours_on_file(k)
@@ -171,7 +230,7 @@ impl Store<'_> {
     /// billed, and past the last month.
     #[tactic(auto, unfolding(crate::specs::Months::first_missing))]
     pub fn missing(&self, k: usize) -> Option<Missing>
-        ensures { result ≡ first_missing (month_in self.now k) }
+        ensures { result ≡ first_missing (month_in (filed_in self.now) k) }
     {
         if let Some(quarter) = self.unread(k) {
             return Some(Missing::Reading {
@@ -186,11 +245,12 @@ impl Store<'_> {
     /// where all have.
     pub fn first_short(&self, state: State, k: usize) -> Option<usize>
         ensures { MatchOption result
-            (first_short_month state (months_of self.now) k ≡ min (length (months_of self.now)) k)
-            (λ short. (first_short_month state (months_of self.now) k ≡ short)
-            × (short < min (length (months_of self.now)) k)) }
+            (first_short_month state (months_of (filed_in self.now)) k
+            ≡ min (length (months_of (filed_in self.now))) k)
+            (λ short. (first_short_month state (months_of (filed_in self.now)) k ≡ short)
+            × (short < min (length (months_of (filed_in self.now))) k)) }
     {
-        self.months()
+        self.records()
             .iter()
             .take(k)
             .position(|month| !month.state.has_reached(state))
@@ -199,30 +259,32 @@ impl Store<'_> {
     /// The facts of the month at place `k`, as its file stands, at a point of such capacities;
     /// `None` where it is not on file.
     pub fn facts(&self, k: usize, capacities: Capacities) -> Option<Facts>
-        ensures there { IsSome result ↔ (k < length (months_of self.now)) }
+        ensures there { IsSome result ↔ (k < length (months_of (filed_in self.now))) }
         ensures facts { IfSome result (λ facts. facts.plain
             ≡ facts_of_month capacities.contract capacities.substation
-            (earlier_peaks_of self.now) (months_of self.now) k) }
+            (earlier_peaks_of (filed_in self.now)) (months_of (filed_in self.now)) k) }
     {
         let month = self.month(k)?;
+        let records = &self.months.records[..];
         Some(Facts {
             plain: PlainFacts {
                 contract: capacities.contract,
                 substation: capacities.substation,
                 peak: month.peak,
-                peak_kva: highest_of::<Quarter, Kva>(self.quarters(k)),
-                ratchet_peak: highest_of::<MonthRecord, Peak>(&self.records[k..k + RATCHET]),
+                peak_kva: highest_of::<Quarter, Kva>(self.readings(k)),
+                ratchet_peak: highest_of::<MonthRecord, Peak>(&records[k..k + RATCHET]),
             },
         })
     }
 
-    /// The hours of the month at place `k`; no hours where it is not on file.
+    /// The hours of the month at place `k`, each with its energy, the kW of its four quarters added
+    /// up, its price and its scheduled kW; no hours where it is not on file.
     pub fn hours(&self, k: usize) -> MonthHours
-        ensures { rows_in result ≡ hour_rows (month_in self.now k) }
+        ensures { rows_in result ≡ hour_rows (month_in (filed_in self.now) k) }
     {
         let hours = self.hours_on_file(k);
         let mut rows = blank_rows();
-        fill_rows(&mut rows, self.quarters(k), hours);
+        fill_rows(&mut rows, self.readings(k), hours);
         MonthHours {
             rows,
             count: hours.len(),

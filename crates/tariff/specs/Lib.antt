@@ -1,4 +1,5 @@
 pub mod Capacity
+pub mod Constants
 pub mod Limits
 pub mod Lines
 pub mod Money

@@ -6,12 +6,11 @@ ghost use Rattle.tariff.specs.declared.figures.OwnFigures.{OwnFigures};
 use crate::figures::{Figures, OwnFigures};
 use crate::limits::first_outside;
 use crate::refusal::Refusal;
-use std::alloc::AllocError;
 use std::error::Error;
 use std::fmt;
 
-/// A draft that could not be sealed, as it was, with the reason.
-#[derive(Clone, Copy, PartialEq, Eq, Debug)]
+/// A draft that could not be sealed, as it was, with the reason: it can be mended and sealed again.
+#[derive(PartialEq, Eq, Debug, Drop)]
 pub struct Unsealed<D> {
     /// Why: the first figure outside its limits.
     pub refusal: Refusal,
@@ -38,7 +37,7 @@ impl<D: Drop> fmt::Display for Unsealed<D> {
 impl<D: fmt::Debug + Drop> Error for Unsealed<D> {}
 
 /// The figures of a sheet that is still being filled in, any numbers.
-pub trait Draft: Copy {
+pub trait Draft: Sized + Drop {
     // each figure in its order with its limits
     ghost figures: { Self → FigureList };
 
@@ -59,8 +58,8 @@ pub trait Draft: Copy {
     fn own() -> OwnFigures
         ensures { result ≡ own };
 
-    /// Refused where a figure is outside its limits, with the place of the first such, from 1; the
-    /// draft comes back as it was.
+    /// Takes the draft. Refused where a figure is outside its limits, with the place of the first
+    /// such, from 1; the draft then comes back as it was.
     final fn seal(self) -> Result<Sealed<Self>, Unsealed<Self>>
         ensures { MatchResult result
             (λ sheet. sheet.draft ≡ self)
@@ -84,17 +83,10 @@ pub trait Draft: Copy {
 }
 
 /// A sealed sheet: its figures lie within their limits and stay as they are.
+#[derive(Drop)]
 pub struct Sealed<D: Draft> {
     draft: D,
     ghost within: { FiguresWithin (D.figures draft) },
-}
-
-impl<D: Draft> Copy for Sealed<D> {}
-
-impl<D: Draft> Clone for Sealed<D> {
-    fn clone(&self) -> Result<Sealed<D>, AllocError> {
-        Ok(*self)
-    }
 }
 
 impl<D: Draft> Sealed<D> {

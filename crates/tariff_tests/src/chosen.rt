@@ -4,14 +4,14 @@ use piles::{Pile, RateDraft, RateSheet, RiderDraft, RiderSheet};
 use rates::dos::DosDraft;
 use rates::dts::{DTS_2007, DtsDraft, GTS_2007};
 use rates::sts::StsDraft;
-use rates::xts::XtsDraft;
+use rates::xts::{XTS_2007, XtsDraft};
 use riders::Rider;
 use riders::credit::CreditDraft;
 use riders::energy::EnergyDraft;
 use riders::percent::PercentDraft;
 use std::process::Abort;
 use std::test::Fail;
-use tariff::{Draft, Fault, HourRow, LINES, Line, PlainFacts, Rate, Refusal, Schedule};
+use tariff::{Fault, HourRow, LINES, Line, PlainFacts, Rate, Refusal, Schedule, Unsealed};
 
 const PLANT: PlainFacts = PlainFacts {
     contract: 20_000,
@@ -68,22 +68,18 @@ fn is_that_rate<R: Rate>(
 
 #[test]
 fn each_rate_chosen_is_that_rate(rt: HostRuntime) -> Result<(), Fail> {
-    let xts = XtsDraft::published_2007();
-    let dos = DosDraft::published_2009(10_000, -500);
-    let sts = StsDraft::published_2009(-300, 40_000);
-    let dts_chosen = RateDraft::Dts(DTS_2007);
-    is_that_rate(&rt, dts_chosen, DTS_2007, Line::DeliveryFixed, 1_516_333)?;
-    let gts_chosen = RateDraft::Gts(GTS_2007);
-    is_that_rate(&rt, gts_chosen, GTS_2007, Line::DeliveryDemand, 14_058_900)?;
-    is_that_rate(&rt, RateDraft::Xts(xts), xts, Line::Interconnection, 16_965)?;
-    is_that_rate(&rt, RateDraft::Dos(dos), dos, Line::TransactionFee, 50_000)?;
-    is_that_rate(
-        &rt,
-        RateDraft::Sts(sts),
-        sts,
-        Line::UnitConnection,
-        1_036_000,
-    )
+    let dts = RateDraft::Dts(DTS_2007);
+    is_that_rate(&rt, dts, DTS_2007, Line::DeliveryFixed, 1_516_333)?;
+    let gts = RateDraft::Gts(GTS_2007);
+    is_that_rate(&rt, gts, GTS_2007, Line::DeliveryDemand, 14_058_900)?;
+    let xts = RateDraft::Xts(XTS_2007);
+    is_that_rate(&rt, xts, XTS_2007, Line::Interconnection, 16_965)?;
+    let dos = RateDraft::Dos(DosDraft::published_2009(10_000, -500));
+    let alone = DosDraft::published_2009(10_000, -500);
+    is_that_rate(&rt, dos, alone, Line::TransactionFee, 50_000)?;
+    let sts = RateDraft::Sts(StsDraft::published_2009(-300, 40_000));
+    let alone = StsDraft::published_2009(-300, 40_000);
+    is_that_rate(&rt, sts, alone, Line::UnitConnection, 1_036_000)
 }
 
 fn energy(number: i64, rate: i64) -> EnergyDraft {
@@ -96,17 +92,16 @@ fn percent(number: i64, factor: i64) -> PercentDraft {
 
 #[test]
 fn a_chosen_pile_is_the_nested_riders(rt: HostRuntime) -> Result<(), Fail> {
-    let credit = CreditDraft::published_2009(7);
     let mut pile = Pile::new(rt.alloc(), RateSheet::try_from(RateDraft::Dts(DTS_2007))?);
     assert_eq!(rt; plant_cents(&pile)?, sealed_cents(DTS_2007)?);
-    pile.pile(RiderSheet::try_from(RiderDraft::Credit(credit))?)?;
+    pile.pile(RiderSheet::try_from(RiderDraft::Credit(CreditDraft::published_2009(7)))?)?;
     pile.pile(RiderSheet::try_from(RiderDraft::Energy(energy(11, -250)))?)?;
     pile.pile(RiderSheet::try_from(RiderDraft::Percent(percent(12, 374)))?)?;
     let nested = Rider::over(
         sealed(percent(12, 374))?,
         Rider::over(
             sealed(energy(11, -250))?,
-            Rider::over(sealed(credit)?, sealed(DTS_2007)?),
+            Rider::over(sealed(CreditDraft::published_2009(7))?, sealed(DTS_2007)?),
         ),
     );
     let priced = plant_cents(&pile)?;
@@ -117,6 +112,20 @@ fn a_chosen_pile_is_the_nested_riders(rt: HostRuntime) -> Result<(), Fail> {
     Ok(())
 }
 
+const NOTHING: StsDraft = StsDraft {
+    loss_factor: 0,
+    unit_rating: 0,
+    unit_connection: 0,
+};
+
+fn ten() -> Result<RiderSheet, Refusal> {
+    Ok(RiderSheet::try_from(RiderDraft::Energy(energy(1, 10)))?)
+}
+
+fn doubling() -> Result<RiderSheet, Refusal> {
+    Ok(RiderSheet::try_from(RiderDraft::Percent(percent(2, 10_000)))?)
+}
+
 // The order counts: a percent rider takes what lies beneath it alone.
 #[test]
 fn riders_pile_upwards(rt: HostRuntime) -> Result<(), Fail> {
@@ -125,20 +134,13 @@ fn riders_pile_upwards(rt: HostRuntime) -> Result<(), Fail> {
         price: 0,
         scheduled: 0,
     }];
-    let nothing = RateDraft::Sts(StsDraft {
-        loss_factor: 0,
-        unit_rating: 0,
-        unit_connection: 0,
-    });
-    let ten = RiderSheet::try_from(RiderDraft::Energy(energy(1, 10)))?;
-    let doubling = RiderSheet::try_from(RiderDraft::Percent(percent(2, 10_000)))?;
-    let mut above = Pile::new(rt.alloc(), RateSheet::try_from(nothing)?);
-    above.pile(ten)?;
-    above.pile(doubling)?;
+    let mut above = Pile::new(rt.alloc(), sealed(NOTHING)?);
+    above.pile(ten()?)?;
+    above.pile(doubling()?)?;
     assert_eq!(rt; cents(&above, PLANT, &row)?[Line::Riders.index()], 20);
-    let mut beneath = Pile::new(rt.alloc(), RateSheet::try_from(nothing)?);
-    beneath.pile(doubling)?;
-    beneath.pile(ten)?;
+    let mut beneath = Pile::new(rt.alloc(), sealed(NOTHING)?);
+    beneath.pile(doubling()?)?;
+    beneath.pile(ten()?)?;
     assert_eq!(rt; cents(&beneath, PLANT, &row)?[Line::Riders.index()], 10);
     Ok(())
 }
@@ -167,31 +169,32 @@ fn a_fault_names_its_rider(rt: HostRuntime) -> Result<(), Fail> {
 }
 
 fn rate_refused(draft: RateDraft) -> Option<Refusal> {
-    RateSheet::try_from(draft).err()
+    RateSheet::try_from(draft).err().map(Refusal::from)
 }
 
 fn rider_refused(draft: RiderDraft) -> Option<Refusal> {
-    RiderSheet::try_from(draft).err()
+    RiderSheet::try_from(draft).err().map(Refusal::from)
 }
 
 fn at(place: u64) -> Option<Refusal> {
     Some(Refusal::FigureOutside { place })
 }
 
+const OUTSIDE: DtsDraft = DtsDraft {
+    operating_reserve: 10_001,
+    power_factor: -1,
+    ..DTS_2007
+};
+
 #[test]
 fn a_figure_outside_is_named(rt: HostRuntime) {
-    let damaged = DtsDraft {
-        operating_reserve: 10_001,
-        power_factor: -1,
-        ..DTS_2007
-    };
     let xts = XtsDraft {
         other_support: -1,
-        ..XtsDraft::published_2007()
+        ..XTS_2007
     };
     let rates = [
-        (RateDraft::Dts(damaged), 5),
-        (RateDraft::Gts(damaged), 5),
+        (RateDraft::Dts(OUTSIDE), 5),
+        (RateDraft::Gts(OUTSIDE), 5),
         (RateDraft::Xts(xts), 4),
         (RateDraft::Dos(DosDraft::published_2009(0, 0)), 3),
         (RateDraft::Sts(StsDraft::published_2009(0, 1_000_001)), 2),
@@ -211,4 +214,37 @@ fn a_figure_outside_is_named(rt: HostRuntime) {
     for (draft, place) in riders {
         assert_eq!(rt; rider_refused(draft), at(place));
     }
+}
+
+#[test]
+fn a_refused_draft_is_mended_and_sealed(rt: HostRuntime) -> Result<(), Fail> {
+    let Err(
+        Unsealed {
+            draft: RateDraft::Gts(mut draft),
+            ..
+        },
+    ) = RateSheet::try_from(RateDraft::Gts(OUTSIDE))
+    else {
+        return Err("another draft came back".into());
+    };
+    assert_eq!(rt; draft, OUTSIDE);
+    draft.operating_reserve = DTS_2007.operating_reserve;
+    draft.power_factor = DTS_2007.power_factor;
+    assert_eq!(rt;
+        chosen_cents(RateDraft::Gts(draft))?,
+        sealed_cents(DTS_2007)?
+    );
+    let Err(
+        Unsealed {
+            draft: RiderDraft::Energy(mut draft),
+            ..
+        },
+    ) = RiderSheet::try_from(RiderDraft::Energy(energy(0, 10)))
+    else {
+        return Err("another draft came back".into());
+    };
+    assert_eq!(rt; draft, energy(0, 10));
+    draft.number = 1;
+    assert!(rt; rider_refused(RiderDraft::Energy(draft)).is_none());
+    Ok(())
 }

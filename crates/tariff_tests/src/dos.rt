@@ -118,9 +118,8 @@ fn the_fee_is_charged_every_month(rt: HostRuntime) -> Result<(), Fail> {
 
 #[test]
 fn the_highest_month_is_priced(rt: HostRuntime) -> Result<(), Fail> {
-    let most: DosDraft = filled(&MOST)?;
     assert_eq!(rt;
-        idle_cents(most, &[HIGHEST; 744])?,
+        idle_cents(filled::<DosDraft>(&MOST)?, &[HIGHEST; 744])?,
         [
             0,
             0,
@@ -140,7 +139,7 @@ fn the_highest_month_is_priced(rt: HostRuntime) -> Result<(), Fail> {
     );
     let credit = DosDraft {
         loss_factor: -10_000,
-        ..most
+        ..filled::<DosDraft>(&MOST)?
     };
     let lines = idle_cents(credit, &[HIGHEST; 744])?;
     assert_eq!(rt; lines[Line::Interconnection.index()], 55_800_000_000);

@@ -17,14 +17,15 @@ fn each_figure_has_limits(rt: HostRuntime) -> Result<(), Fail> {
     limits::<DtsDraft, 8>(&rt, LEAST, MOST)
 }
 
+const OUTSIDE: DtsDraft = DtsDraft {
+    operating_reserve: 10_001,
+    power_factor: -1,
+    ..DTS_2007
+};
+
 #[test]
 fn a_refused_draft_comes_back(rt: HostRuntime) -> Result<(), Fail> {
-    let wrong = DtsDraft {
-        operating_reserve: 10_001,
-        power_factor: -1,
-        ..DTS_2007
-    };
-    let unsealed = refused(wrong)?;
+    let unsealed = refused(OUTSIDE)?;
     assert_eq!(rt;
         unsealed.refusal.numbers(),
         Numbers {
@@ -34,6 +35,6 @@ fn a_refused_draft_comes_back(rt: HostRuntime) -> Result<(), Fail> {
             rider: 0
         }
     );
-    assert_eq!(rt; unsealed.draft, wrong);
+    assert_eq!(rt; unsealed.draft, OUTSIDE);
     Ok(())
 }

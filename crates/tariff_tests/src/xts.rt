@@ -14,15 +14,16 @@ fn each_figure_has_limits(rt: HostRuntime) -> Result<(), Fail> {
     limits::<XtsDraft, 4>(&rt, LEAST, MOST)
 }
 
+const OUTSIDE: XtsDraft = XtsDraft {
+    interconnection: 377,
+    operating_reserve: 374,
+    voltage_control: 100_001,
+    other_support: -1,
+};
+
 #[test]
 fn a_refused_draft_comes_back(rt: HostRuntime) -> Result<(), Fail> {
-    let draft = XtsDraft {
-        interconnection: 377,
-        operating_reserve: 374,
-        voltage_control: 100_001,
-        other_support: -1,
-    };
-    let unsealed = refused(draft)?;
+    let unsealed = refused(OUTSIDE)?;
     assert_eq!(rt;
         unsealed.refusal.numbers(),
         Numbers {
@@ -32,7 +33,7 @@ fn a_refused_draft_comes_back(rt: HostRuntime) -> Result<(), Fail> {
             rider: 0
         }
     );
-    assert_eq!(rt; unsealed.draft, draft);
+    assert_eq!(rt; unsealed.draft, OUTSIDE);
     Ok(())
 }
 
@@ -75,13 +76,19 @@ fn interconnection(draft: XtsDraft, energy: u32, scheduled: u32) -> Result<i64, 
     Ok(idle_cents(draft, &[hour])?[Line::Interconnection.index()])
 }
 
+const DEAREST: XtsDraft = XtsDraft {
+    interconnection: 100_000,
+    operating_reserve: 0,
+    voltage_control: 0,
+    other_support: 0,
+};
+
 #[test]
 fn the_greater_part_is_charged(rt: HostRuntime) -> Result<(), Fail> {
-    let most: XtsDraft = filled(&[100_000, 0, 0, 0])?;
     let cases = [
-        (most, 3_599_999, 1_000_000, 90_000_000),
-        (most, 3_600_000, 1_000_000, 90_000_000),
-        (most, 3_600_001, 1_000_000, 90_000_025),
+        (DEAREST, 3_599_999, 1_000_000, 90_000_000),
+        (DEAREST, 3_600_000, 1_000_000, 90_000_000),
+        (DEAREST, 3_600_001, 1_000_000, 90_000_025),
         (XTS_2007, 3_599_989, 1_000_000, 339_300),
         (XTS_2007, 3_600_011, 1_000_000, 339_301),
         (XTS_2007, 0, 3_000, 1_018),

@@ -12,7 +12,7 @@ pub const DOS_2009_ENERGY: i64 = 528;
 pub const DOS_2009_TRANSACTION_FEE: i64 = 50_000;
 
 /// The figures of a sheet of rate DOS 7 Minutes that is still being filled in, any numbers.
-#[derive(Clone, Copy, PartialEq, Eq, Debug)]
+#[derive(PartialEq, Eq, Debug, Drop)]
 pub struct DosDraft {
     /// Cents per MWh, from 0 to 100,000.
     pub energy: i64,

@@ -7,7 +7,7 @@ use tariff::{Draft, Figure, Figures, OwnFigures, Sealed};
 
 /// The figures of a sheet of rate DTS or GTS that is still being filled in, any numbers. Each can
 /// be sealed from 0.
-#[derive(Clone, Copy, PartialEq, Eq, Debug)]
+#[derive(PartialEq, Eq, Debug, Drop)]
 pub struct DtsDraft {
     /// Cents per MW of billing capacity, at most 10,000,000.
     pub system_demand: i64,

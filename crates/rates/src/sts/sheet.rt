@@ -9,7 +9,7 @@ use tariff::{Draft, Figure, Figures, MOST_DEMAND, OwnFigures, Sealed};
 pub const STS_2009_UNIT_CONNECTION: i64 = 25_900;
 
 /// The figures of a sheet of rate STS that is still being filled in, any numbers.
-#[derive(Clone, Copy, PartialEq, Eq, Debug)]
+#[derive(PartialEq, Eq, Debug, Drop)]
 pub struct StsDraft {
     /// The customer's own: hundredths of a percent of the pool price, from -10,000 (a credit) to 10,000.
     pub loss_factor: i64,

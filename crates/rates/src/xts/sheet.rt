@@ -7,7 +7,7 @@ use tariff::{Draft, Figure, Figures, OwnFigures, Sealed};
 
 /// The figures of a sheet of rate XTS that is still being filled in, any numbers. Each can be
 /// sealed from 0.
-#[derive(Clone, Copy, PartialEq, Eq, Debug)]
+#[derive(PartialEq, Eq, Debug, Drop)]
 pub struct XtsDraft {
     /// Cents per MWh, at most 100,000.
     pub interconnection: i64,

@@ -1,4 +1,4 @@
-ghost use Rattle.std.specs.Prelude.{◌≡◌, refl};
+ghost use Rattle.std.specs.Prelude.{◌≡◌, pos, refl};
 ghost use Rattle.tariff.specs.Sheets.{values_of};
 ghost use Rattle.tariff.proofs.DraftFigures.{inverse};
 ghost use Rattle.riders.specs.Credit.{credit_draft, credit_figures, credit_from_figures, credit_own, psc_2009};
@@ -8,7 +8,7 @@ use tariff::{Draft, Figure, Figures, OwnFigures, Sealed};
 /// The figures of a Primary Service Credit that is still being filled in, any numbers. A band is of
 /// billing capacity times substation total over contract; each of its figures is in cents per MW,
 /// from 0 to 500,000.
-#[derive(Clone, Copy, PartialEq, Eq, Debug)]
+#[derive(PartialEq, Eq, Debug, Drop)]
 pub struct CreditDraft {
     /// The rider's number, the customer's own: from 1 to 65,535.
     pub number: i64,
@@ -41,7 +41,8 @@ pub type CreditSheet = Sealed<CreditDraft>;
 impl CreditDraft {
     /// The published figures under a customer's own number.
     pub fn published_2009(number: i64) -> CreditDraft
-        ensures { result ≡ psc_2009 number }
+        ensures figures { result ≡ psc_2009 number }
+        ensures unnumbered { PSC_2009 ≡ psc_2009 (pos 0) }
     {
         CreditDraft { number, ..PSC_2009 }
     }

@@ -7,7 +7,7 @@ use tariff::{Draft, Figure, Figures, OwnFigures, Sealed};
 
 /// The figures of a percent rider that is still being filled in, any numbers; both are the
 /// customer's own.
-#[derive(Clone, Copy, PartialEq, Eq, Debug)]
+#[derive(PartialEq, Eq, Debug, Drop)]
 pub struct PercentDraft {
     /// The rider's number, from 1 to 65,535.
     pub number: i64,

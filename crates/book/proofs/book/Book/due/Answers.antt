@@ -29,4 +29,4 @@ returns g c =
     answers_taken meaning (asks (whether_due m)) c.args.self.now c.is_some.result
     (in_book_passes m v c.in_ok-named.named is (due_rows meaning m v)
     ∙ pass (month_open m v) (line_past_limit meaning m v ∷ []) _ (rw billed refl) (pass (line_past_limit meaning m v) [] _ (no_fault meaning v m amounts ok) refl))
-    (c.is_some.ensures ∙ ap is_some (c.first_differing.ensures ∙ ap (λ es. first_differing amounts.cents (sums es c.in_ok-named.named.number)) c.entries.ensures ∙ ap₂ first_differing (amounts_are meaning v m amounts ok) (ap (sums v.ledger) is.number)))
+    (c.is_some.ensures ∙ ap is_some (c.first_differing.ensures ∙ ap (λ es. first_differing amounts.cents (sums es c.in_ok-named.named.number)) c.ledger.ensures ∙ ap₂ first_differing (amounts_are meaning v m amounts ok) (ap (sums v.ledger) is.number)))

@@ -2,7 +2,7 @@ use Rattle.std.proofs.Common.{◌≡◌, ◌*◌, ◌≤◌, ◌/◌, ℕ, lengt
 use Rattle.std.proofs.Math.Nat.{mul-div_cancel_left}
 use Rattle.store.specs.Stores.{capacity}
 use Rattle.store.specs.declared.memory.TheConstants.{MONTH_HOURS, MONTH_QUARTERS}
-use Rattle.store.specs.declared.store.TheConstants.{MOST_MONTHS}
+use Rattle.store.specs.declared.month.TheConstants.{MOST_MONTHS}
 use Rattle.book.specs.Memories.{entry_room, month_room}
 use Rattle.book.proofs.memory.BookMemory.new.Goals as goal
 

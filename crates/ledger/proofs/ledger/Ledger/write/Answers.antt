@@ -1,11 +1,11 @@
-use Rattle.std.proofs.Common.{◌≡◌, ℕ, ◌+◌, ◌<◌, ◌≤◌, true, false, List, [], ◌∷◌, ◌++◌, length, get_or, drop, ℤ, pos, count_by, sym, refl, ap, ◌∙◌, arith, w64, to_z, of_z, rules}
-use Rattle.std.proofs.lemmas.List.{append_assoc, append-nil, drop_all, drop_more, length-append}
+use Rattle.std.proofs.Common.{◌≡◌, ℕ, ◌+◌, ◌<◌, ◌≤◌, true, false, List, [], ◌∷◌, ◌++◌, length, get_or, drop, ℤ, pos, count_by, sym, ap, ◌∙◌, arith, w64, to_z, of_z, rules}
+use Rattle.std.proofs.lemmas.List.{append_assoc, append-nil, drop_all, drop_more, drop-drop, length-append}
 use Rattle.std.proofs.lemmas.Bool.Decides.{nat_tests}
 use Rattle.ledger.specs.Entries.{differences, entries_from, is_written, sums}
 use Rattle.ledger.specs.Ledgers.{entries_of}
 use Rattle.ledger.specs.declared.entry.Entry.{Entry}
 use Rattle.ledger.specs.declared.entry.EntryKind.{EntryKind}
-use Rattle.ledger.proofs.Fronts.{entries_fit, entries_within, part_within, written_within}
+use Rattle.ledger.proofs.Fronts.{entries_fit, entries_length, part_within, written_within}
 use Rattle.ledger.proofs.Sums.{entries_cons_unwritten, entries_cons_written, owed_count, entries_none, entry_of}
 use Rattle.ledger.proofs.ledger.Ledger.write.Goals as goal
 use Rattle.ledger.proofs.ledger.Ledger.write.Goals.{then-writes, else-writes}
@@ -32,6 +32,11 @@ module _ (kind : EntryKind) (month : ℕ) (lines : List ℤ) (done whole : List 
       let none = ap (entries_from kind month (i + 1)) (drop_all i lines past) ∙ entries_none kind month (i + 1) in
       sym (append-nil done) ∙ ap (λ es. done ++ es) (sym none) ∙ so_far
 
+-- what is alike past the entries is alike past one more
+past_more : (old new : List Entry) (written next : ℕ) → next ≡ written + 1
+    → drop written new ≡ drop written old → drop next new ≡ drop next old
+past_more old new written next is alike = rw is (sym (drop-drop 1 written new) ∙ ap (drop 1) alike ∙ drop-drop 1 written old)
+
 pub returns-then-free-count-clause-answer : goal.returns-then-free-count-clause-answer
 returns-then-free-count-clause-answer c =
     let count = owed_count c.args.kind c.args.month c.args.amounts.now.cents (entries_of c.args.self.now) in
@@ -51,8 +56,8 @@ push-requires c =
     let more = written_more kind c.args.month lines done _ i c.loop-i.invariant.whole cents (search rules) same (search rules) in
     let count = ap (count_by (is_written kind)) (c.differences-lines.ensures ∙ ap (λ es. differences amounts.cents (sums es c.args.month)) c.entries.ensures) in
     record {
-      space = omega (arith, count, owed_count kind c.args.month amounts.cents (entries_of ledger), entries_fit ledger, simp length-append at (ap length more));
-      within = part_within _ _ _ more (written_within kind (entries_of ledger) c.args.month amounts.cents amounts.counted (entries_within ledger (entries_of ledger) refl) amounts.within);
+      space = omega (arith, count, owed_count kind c.args.month amounts.cents (entries_of ledger), entries_length c.loop-i.self, entries_fit ledger, simp length-append at (ap length more));
+      within = part_within _ _ _ more (written_within kind (entries_of ledger) c.args.month amounts.cents amounts.counted ledger.kept.1 amounts.within);
     }
 
 pub loop-i-preserved : goal.loop-i-preserved
@@ -65,10 +70,20 @@ loop-i-preserved c =
           let cents = to_z w64 (of_z w64 (get_or lines i (pos 0))) in
           let same : cents ≡ get_or lines i (pos 0) = search rules in
           let more = written_more c.args.kind c.args.month lines (entries_of c.loop-i.self) _ i c.loop-i.invariant.whole cents here same (search rules) in
-          record { whole = rw (w.self-is, w.push.ensures.pushed) more; room = rw w.self-is (w.push.ensures.room ∙ c.loop-i.invariant.room) }
+          let one_more = simp length-append at (ap length w.push.ensures.pushed) in
+          let next : w.push.new.self.written.now ≡ c.loop-i.self.written.now + 1 = omega (arith, entries_length w.push.new.self, entries_length c.loop-i.self) in
+          let past = past_more c.args.self.now.memory.now c.loop-i.self.memory.now c.loop-i.self.written.now w.push.new.self.written.now next c.loop-i.invariant.past in
+          let same = c.loop-i.invariant.memory in
+          rw w.self-is
+          (record {
+            whole = rw w.push.ensures.pushed more;
+            room = w.push.ensures.room ∙ c.loop-i.invariant.room;
+            past = w.push.ensures.past ∙ past;
+            memory = record { entries = w.push.ensures.memory.entries ∙ same.entries; count = w.push.ensures.memory.count ∙ same.count };
+          })
       | else-writes w ↦
           let more = unwritten_more c.args.kind c.args.month lines (entries_of c.loop-i.self) _ i c.loop-i.invariant.whole here (search rules) in
-          record { whole = rw w.self-is more; room = rw w.self-is c.loop-i.invariant.room }
+          rw w.self-is (record { whole = more; room = c.loop-i.invariant.room; past = c.loop-i.invariant.past; memory = c.loop-i.invariant.memory })
     ]
 
 pub returns-clause-answer : goal.returns-clause-answer

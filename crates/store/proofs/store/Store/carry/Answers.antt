@@ -4,7 +4,7 @@ use Rattle.std.proofs.lemmas.List.FromFn.{length-map-range_with_len}
 use Rattle.std.proofs.lemmas.List.{get_or-append_right, get_or-drop, length-map, take-append-le, take_all}
 use Rattle.store.specs.Months.{earlier_peaks}
 use Rattle.store.specs.Records.{first_record, record_in}
-use Rattle.store.specs.Stores.{earlier_peaks_of, capacity_of}
+use Rattle.store.specs.Stores.{capacity_of, earlier_peaks_of, filed}
 use Rattle.store.specs.declared.month.MonthRecord.{MonthRecord}
 use Rattle.store.proofs.Alterations.{month_kept}
 use Rattle.store.proofs.Stretches.{months_same}
@@ -25,24 +25,34 @@ unfolding earlier_peaks
 many_aged before carried are = sym (length-map before _) ∙ ap length are
     ∙ length-map-range_with_len (λ i. get_or carried (24 - 1 - i) 0) 0 24
 
-pub invariant_of-self : goal.invariant_of-self
-invariant_of-self c =
-    let store = c.args.self.now in
+pub invariant_of-months : goal.invariant_of-months
+invariant_of-months c =
+    let store = filed c.args.self.now in
     let before = c.write.new.records in
     let many = many_aged before c.args.carried.now c.write.ensures in
     record {
       recorded = length-append before (drop 24 store.records)
-          ∙ omega (arith, many, length-drop 24 store.records);
+          ∙ omega (arith, many, length-drop 24 store.records, store.recorded);
       few = store.few;
-      quarters_fit = store.quarters_fit;
-      hours_fit = store.hours_fit;
-      peaks = λ k here. rw (kept before store.records k many) (store.peaks k here);
+    }
+
+pub invariant_of-self : goal.invariant_of-self
+invariant_of-self c =
+    let store = filed c.args.self.now in
+    let before = c.write.new.records in
+    let many = many_aged before c.args.carried.now c.write.ensures in
+    record {
+      kept = (
+        store.quarters_fit,
+        store.hours_fit,
+        λ k here. rw (kept before store.records k many) (store.peaks k here),
+      );
     }
 
 pub returns : goal.returns
 unfolding earlier_peaks_of capacity_of
 returns c =
-    let store = c.args.self.now in
+    let store = filed c.args.self.now in
     let before = c.write.new.records in
     let many = many_aged before c.args.carried.now c.write.ensures in
     record {
@@ -62,4 +72,7 @@ returns c =
                 refl;
           }));
       capacity = refl;
+      quarters = refl;
+      hours = refl;
+      memory = (refl, refl, refl);
     }

@@ -1,15 +1,16 @@
-use Rattle.std.proofs.Common.{◌∙◌, rules}
-use Rattle.store.proofs.Views.{days_found, days_recorded}
+use Rattle.std.proofs.Common.{ap, ◌∙◌}
+use Rattle.store.specs.Records.{record_in}
+use Rattle.store.specs.Stores.{month_in}
 use Rattle.store.proofs.store.Store.days_of.Goals as goal
 
 pub returns : goal.returns
 returns c =
-    let store = c.args.self.now in
-    let found = days_found store c.args.k c.map_or.result c.record.result
-    c.record.ensures.there c.record.ensures.days (search rules) in
+    let same = c.on_file.ensures in
+    let found = c.days_of.ensures in
+    let k = c.args.k in
     record {
-      read = found.0;
-      within = found.1;
-      there = found.2;
-      recorded = λ some. found.0 ∙ days_recorded store c.args.k (found.2 some);
+      read = found.read ∙ ap (λ file. (month_in file k).days) same;
+      within = found.within;
+      there = λ some. rw (ap (λ file. file.started) same) at (found.there some);
+      recorded = λ some. found.recorded some ∙ ap (λ file. (record_in file.records k).days) same;
     }

@@ -2,12 +2,13 @@ use Rattle.std.proofs.Common.{◌≡◌, ◌<◌, leb, Some, None, ap, sym, refl
 use Rattle.std.proofs.lemmas.Bool.{cond-true}
 use Rattle.store.specs.Months.{hours_of}
 use Rattle.store.specs.Posts.{post_places, post_within}
+use Rattle.store.specs.Stores.{filed}
 use Rattle.store.proofs.Alterations.{alters_hour, record_at}
 use Rattle.store.proofs.store.Store.post.Goals as goal
 
 pub returns-in-Price-clause-posted : goal.returns-in-Price-clause-posted
 returns-in-Price-clause-posted c =
-    let store = c.args.self.now in
+    let store = filed c.args.self.now in
     let price = c.in-Price.price in
     let places : c.places.result ≡ hours_of c.days_of.result = c.places.ensures
     ∙ ap (λ post. post_places post c.days_of.result) c.in-Price.is in
@@ -23,7 +24,7 @@ returns-in-Price-clause-posted c =
 
 pub returns-in-Scheduled-clause-posted : goal.returns-in-Scheduled-clause-posted
 returns-in-Scheduled-clause-posted c =
-    let store = c.args.self.now in
+    let store = filed c.args.self.now in
     let kw = c.in-Scheduled.kw in
     let places : c.places.result ≡ hours_of c.days_of.result = c.places.ensures
     ∙ ap (λ post. post_places post c.days_of.result) c.in-Scheduled.is in

@@ -1,7 +1,0 @@
-use Rattle.std.proofs.Common.{map, ap, ◌∙◌}
-use Rattle.store.specs.Records.{hour_of}
-use Rattle.store.proofs.Views.{hours_read}
-use Rattle.store.proofs.store.Store.hours_on_file.Goals as goal
-
-pub returns-clause-read : goal.returns-clause-read
-returns-clause-read c = ap (map hour_of) c.on_file.ensures.read ∙ hours_read c.args.self.now c.args.k
