@@ -1,6 +1,7 @@
 -- How a call ends: refused by a row, or taken.
 use Rattle.std.proofs.Common.{rules, ◌≡◌, ℕ, ◌+◌, ◌<◌, ◌≤◌, Bool, true, false, not, List, [], ◌∷◌, ◌++◌, is_some, IsErrAnd, Some, None, Ok, Err, Option, Result, sym, refl, ap, ◌∙◌, arith}
 use Rattle.std.specs.List.{AllByRecursion}
+use denote.MutBor.{now}
 use Rattle.std.proofs.lemmas.Result.{err_from_is_err_and}
 use Rattle.std.proofs.lemmas.Bool.{and_parts, cond-true, cond-false, le-ltb, leb-true, lt-ltb}
 use Rattle.store.specs.Months.{first_short_month, has_reached}
@@ -49,8 +50,8 @@ same_file book book' months quarters hours = filed_from book'.filed months quart
 -- a book that nothing altered holds what it held
 pub unaltered_view : (book book' : Book) → IsUnaltered book book' → view book' ≡ view book
 unaltered_view book book' same =
-    let file = same_file book book' same.months same.quarters same.hours in
-    rw (file, same.point, same.written, same.entries) refl
+    let file = same_file book book' same.months (ap now same.quarters) (ap now same.hours) in
+    rw (file, same.point, same.written, ap now same.entries) refl
 
 pub same_memory : (book : Book) → SameMemory book book
 same_memory book = record { quarters = refl; hours = refl; entries = refl }

@@ -1,4 +1,5 @@
 -- What a call leaves in the book of what it lends to a store or to a ledger.
+use denote.MutBor.{MutBor, gone, now}
 use Rattle.std.proofs.Common.{◌≡◌, ℕ, false, List, length, slice_set, take, IsErrAnd, None, Ok, Err, Result, sym, refl, ap, ◌∙◌}
 use Rattle.std.specs.Result.{MatchResult}
 use Rattle.std.proofs.lemmas.Bool.{cond-false}
@@ -42,17 +43,33 @@ pub filed_alike : (book : Book) (kept : Keeps book.months book.quarters.now book
     → file_of book ≡ filed_as book.months book.quarters.now book.hours.now kept
 filed_alike book kept = same_filed book.months book.quarters.now book.hours.now book.filed kept
 
+-- a reference that points where it did, with the same behind it
+whole : {X : Type 0} (old new : MutBor X) → gone new ≡ gone old → new.now ≡ old.now → new ≡ old
+whole old new same behind =
+    λ i. record {
+      ref_ptr = (same i).ref_ptr;
+      ghost_name = (same i).ghost_name;
+      now = behind i;
+    }
+
+-- a book's references before a call and after it, whatever stands behind them
+pub record SameReferences (book book' : Book) : Type 0 where
+  pub quarters : gone book'.quarters ≡ gone book.quarters
+  pub hours : gone book'.hours ≡ gone book.hours
+
 -- a book before a call and after it, with the store over what it lends then
 module _ (book : Book) {book' : Book} {new : Store} (left : IsStoreOf book' new) where
   -- the store refused, and nothing else was altered
   pub unaltered_left : {old : Store} → IsStoreOf book old → book'.point ≡ book.point → book'.written ≡ book.written
-      → book'.entries.now ≡ book.entries.now → new ≡ old → IsUnaltered book book'
-  unaltered_left lent point written entries same = record {
+      → book'.entries ≡ book.entries → SameReferences book book' → new ≡ old → IsUnaltered book book'
+  unaltered_left lent point written entries behind same = record {
     point = point;
     months = left.months ∙ ap (λ store. store.months.now) same ∙ sym lent.months;
     written = written;
-    quarters = left.quarters ∙ ap (λ store. store.quarters.now) same ∙ sym lent.quarters;
-    hours = left.hours ∙ ap (λ store. store.hours.now) same ∙ sym lent.hours;
+    quarters = whole book.quarters book'.quarters behind.quarters
+        (left.quarters ∙ ap (λ store. store.quarters.now) same ∙ sym lent.quarters);
+    hours = whole book.hours book'.hours behind.hours
+        (left.hours ∙ ap (λ store. store.hours.now) same ∙ sym lent.hours);
     entries = entries;
   }
 
@@ -97,8 +114,9 @@ pub record IsEntered (book book' : Book) (old new : Ledger) : Type 0 where
   pub entries_left : book'.entries.now ≡ new.memory.now
   pub point : book'.point ≡ book.point
   pub months : book'.months ≡ book.months
-  pub quarters : book'.quarters.now ≡ book.quarters.now
-  pub hours : book'.hours.now ≡ book.hours.now
+  pub quarters : book'.quarters ≡ book.quarters
+  pub hours : book'.hours ≡ book.hours
+  pub lent : gone book'.entries ≡ gone book.entries
   pub memory : SameMemory book book'
 
 module _ {book book' : Book} {old new : Ledger} (entered : IsEntered book book' old new) where
@@ -110,12 +128,13 @@ module _ {book book' : Book} {old new : Ledger} (entered : IsEntered book book' 
     written = entered.written_left ∙ ap (λ ledger. ledger.written.now) same ∙ sym entered.written_lent;
     quarters = entered.quarters;
     hours = entered.hours;
-    entries = entered.entries_left ∙ ap (λ ledger. ledger.memory.now) same ∙ sym entered.entries_lent;
+    entries = whole book.entries book'.entries entered.lent
+        (entered.entries_left ∙ ap (λ ledger. ledger.memory.now) same ∙ sym entered.entries_lent);
   }
 
   pub view_entered : room_of new ≡ length book.entries.now → view book' ≡ record (view book) { ledger = entries_of new }
   view_entered room =
-      let file = same_file book book' entered.months entered.quarters entered.hours in
+      let file = same_file book book' entered.months (ap now entered.quarters) (ap now entered.hours) in
       rw (file, entered.point, entered.written_left, entered.entries_left, room) refl
 
 -- what a book of these parts keeps to

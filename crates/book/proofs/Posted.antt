@@ -1,4 +1,5 @@
 -- What a post that the store took or refused leaves in the book.
+use denote.MutBor.{now}
 use Rattle.std.proofs.Common.{◌≡◌, ℕ, Bool, true, false, cond, not, ◌⊎◌, [], ◌∷◌, is_some, Some, None, Option, Ok, Err, Result, OnOk, OnErr, sym, refl, ap, ◌∙◌, inl, inr}
 use Rattle.std.specs.Option.{unwrap_or}
 use Rattle.std.specs.Result.{MatchResult}
@@ -25,7 +26,7 @@ use Rattle.book.specs.Unbilled.{Unbilled}
 use Rattle.book.specs.Views.{month_at, month_index}
 use Rattle.book.specs.declared.book.Book.{Book}
 use Rattle.book.proofs.Exits.{is_refused}
-use Rattle.book.proofs.Left.{IsStoreOf, filed_alike, is_altered, lent_file, unaltered_left}
+use Rattle.book.proofs.Left.{IsStoreOf, SameReferences, filed_alike, is_altered, lent_file, unaltered_left}
 use Rattle.book.proofs.Unbilled.{unbilled_altered}
 
 -- what a post leaves of the months that are not billed: it leaves a month's state
@@ -76,7 +77,7 @@ day_rows_say m day false false fault (inr code) = absurd (true≢false (sym code
 module _ (meaning : Meaning) (call : Call) {book book' : Book} {old new : Store} (lent : IsStoreOf book old)
     (left : IsStoreOf book' new) (memory : SameMemory book book')
     (point : book'.point ≡ book.point) (written : book'.written ≡ book.written)
-    (entries : book'.entries.now ≡ book.entries.now) (m place : ℕ) (k : ℕ) (alter : Month → Month) where
+    (entries : book'.entries ≡ book.entries) (behind : SameReferences book book') (m place : ℕ) (k : ℕ) (alter : Month → Month) where
   pub performs_post : (done : Reply call) (result : Result Unit PostError) (r : Result (Reply call) Refusal)
       → MatchResult result (λ _. r ≡ Ok done) (λ error. r ≡ Err (post_refusal m place error))
       → refusal_of meaning call (view book) ≡ refusal_in m place result
@@ -85,6 +86,6 @@ module _ (meaning : Meaning) (call : Call) {book book' : Book} {old new : Store}
       → OnOk result (Alters k alter (filed old) (filed new)) → OnErr result (new ≡ old)
       → Performs meaning call book r book'
   performs_post done (Ok ok) r is by replied after found altered refused =
-      rw is (is_altered book left entries refl (lent_file lent) meaning call k alter altered point memory done by replied (rw (written, found) (sym after)))
+      rw is (is_altered book left (ap now entries) refl (lent_file lent) meaning call k alter altered point memory done by replied (rw (written, found) (sym after)))
   performs_post done (Err error) r is by replied after found altered refused =
-      rw is (is_refused meaning call book book' (post_refusal m place error) by (unaltered_left book left lent point written entries refused) memory)
+      rw is (is_refused meaning call book book' (post_refusal m place error) by (unaltered_left book left lent point written entries behind refused) memory)

@@ -56,14 +56,14 @@ pub record SameMemory (book book' : Book) : Type 0 where
   pub hours : book'.hours.ghost_name ≡ book.hours.ghost_name
   pub entries : book'.entries.ghost_name ≡ book.entries.ghost_name
 
--- the same point, months and entries, with every record of the lent memory
+-- the same point, months and entries, with every record of the lent memory, behind the same references
 pub record IsUnaltered (book book' : Book) : Type 0 where
   pub point : book'.point ≡ book.point
   pub months : book'.months ≡ book.months
   pub written : book'.written ≡ book.written
-  pub quarters : book'.quarters.now ≡ book.quarters.now
-  pub hours : book'.hours.now ≡ book.hours.now
-  pub entries : book'.entries.now ≡ book.entries.now
+  pub quarters : book'.quarters ≡ book.quarters
+  pub hours : book'.hours ≡ book.hours
+  pub entries : book'.entries ≡ book.entries
 
 -- where what a book holds stands in its memory: the record of quarter q of month m, from 1, at
 -- 2,976 × (m - 1) + q, that of hour h at 744 × (m - 1) + h, entry i at i, each with just what the book holds

@@ -108,22 +108,34 @@ impl<'b> Desk<'b> {
         }
     }
 
+    // Every call that the desk makes of the book, but for what only reads it.
+    fn perform_on_book(&mut self, request: Request<'_>) -> Answer {
+        perform(&mut self.book, &self.schedule.pile, request)
+    }
+
     fn ask<W: Write>(&mut self, request: Request<'_>, out: &mut W) -> Result<()> {
-        let answer = perform(&mut self.book, &self.schedule.pile, request);
+        let answer = self.perform_on_book(request);
         write_answer(out, &answer)
+    }
+
+    fn post(&mut self, month: u32, place: u32, post: Post) -> Result<(), Refusal> {
+        match self.perform_on_book(Request::Post { month, place, post }) {
+            Answer::Refused(refusal) => Err(refusal),
+            _ => Ok(()),
+        }
     }
 
     // Posts place after place, up to the first that is refused.
     fn post_range(&mut self, month: u32, first: u32, last: u32, post: Post) -> Result<(), Refusal> {
         for place in first..=last {
-            self.book.post(month, place, post)?;
+            self.post(month, place, post)?;
         }
         Ok(())
     }
 
     fn post_list(&mut self, month: u32, posts: &[(u32, Post)]) -> Result<(), Refusal> {
         for (place, post) in posts {
-            self.book.post(month, *place, *post)?;
+            self.post(month, *place, *post)?;
         }
         Ok(())
     }

@@ -1,4 +1,3 @@
-pub mod FromFn
 pub mod Fronts
 pub mod KindSums
 pub mod Sums

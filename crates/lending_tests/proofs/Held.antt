@@ -1,4 +1,5 @@
 -- What the slices hold once the book is gone, from what the contracts of its calls say.
+use denote.MutBor.{now}
 use Rattle.std.proofs.Common.{MutBor, ◌≡◌, ℕ, ◌+◌, ◌*◌, ◌<◌, ◌≤◌, Bool, true, false, not, leb, List, [], ◌∷◌, ◌++◌, length, Some, Ok, Err, Result, sym, refl, ap, ◌∙◌, subst, arith, length-append, length-take}
 use Rattle.std.specs.Prelude.{slice_get}
 use Rattle.ledger.specs.declared.entry.Entry.{Entry}
@@ -116,9 +117,9 @@ module _ {A : Type 0} {chooses : Chooses A} {meaning : Meaning} {turns : ℕ} {a
     (same_quarters : quarters ≡ end.quarters.now) (same_hours : hours ≡ end.hours.now) (same_entries : entries ≡ end.entries.now) where
   left : LeavesMemory quarters hours entries billed
   left = record {
-    quarters = sym (same_quarters ∙ unaltered.quarters);
-    hours = sym (same_hours ∙ unaltered.hours);
-    entries = sym (same_entries ∙ unaltered.entries);
+    quarters = sym (same_quarters ∙ ap now unaltered.quarters);
+    hours = sym (same_hours ∙ ap now unaltered.hours);
+    entries = sym (same_entries ∙ ap now unaltered.entries);
   }
 
   pub let_go_taken : (m count : ℕ) → Promise meaning → ((book : Book) → StandsIn book)

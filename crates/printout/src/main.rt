@@ -6,8 +6,8 @@ use audit::{Analyst, audit};
 use book::{Answer, Book, PointCode, Request};
 use ledger::{Entry, MOST_BYTES};
 use rates::dts::{DTS_2007, DtsSheet};
-use std::alloc::{AllocError, Global};
-use std::vec;
+use std::array;
+use std::ops::Range;
 use store::{DAY_HOURS, DAY_QUARTERS, Hour, MONTH_HOURS, MONTH_QUARTERS, Post, Quarter, Reading};
 use tariff::{Draft, Refusal};
 
@@ -24,6 +24,9 @@ const MONTHS: usize = 2;
 
 const ENTRIES: usize = 48;
 
+// More calls than the plan has.
+const TURNS: usize = 1_000;
+
 const READING: Reading = Reading {
     kw: 10_000,
     kva: 10_000,
@@ -39,59 +42,75 @@ const LATE: Reading = Reading {
     kva: 22_000,
 };
 
-// Makes the calls of a list, in their order.
+// Opens, starts, posts the days and the prices, bills, posts a late reading and trues up. The calls
+// are made as they are asked for, so that the run needs no heap.
 #[derive(Drop)]
 struct Plan<'d> {
-    requests: vec::IntoIter<Request<'d>>,
+    opening: array::IntoIter<Request<'d>, 2>,
+    days: Range<u32>,
+    peak_day: &'d [Reading],
+    usual_day: &'d [Reading],
+    hours: Range<u32>,
+    billing: array::IntoIter<Request<'d>, 3>,
 }
 
 impl<'d> Analyst<'d> for Plan<'d> {
     ghost chooses = { λ _ _ _ _. Unit {0} };
 
     fn next(&mut self, _last: &Answer) -> Option<Request<'d>> {
-        self.requests.next()
+        if let Some(request) = self.opening.next() {
+            return Some(request);
+        }
+        if let Some(day) = self.days.next() {
+            return Some(Request::PostDay {
+                month: MONTH,
+                day,
+                code: PointCode::from(CODE),
+                readings: if day == 0 {
+                    self.peak_day
+                } else {
+                    self.usual_day
+                },
+            });
+        }
+        if let Some(hour) = self.hours.next() {
+            return Some(Request::Post {
+                month: MONTH,
+                place: hour,
+                post: Post::Price(5_000),
+            });
+        }
+        self.billing.next()
     }
 }
 
-// Opens, starts, posts the days and the prices, bills, posts a late reading and trues up.
-fn requests<'d>(
-    alloc: Global,
-    carried: &'d [u32],
-    peak_day: &'d [Reading],
-    usual_day: &'d [Reading],
-) -> Result<Vec<Request<'d>>, AllocError> {
-    let code = PointCode::from(CODE);
-    let mut requests = Vec::new(alloc);
-    requests.push(Request::Open {
-        code,
-        contract: 20_000,
-        substation: 30_000,
-        carried,
-    })?;
-    requests.push(Request::Start { days: DAYS })?;
-    for day in 0..DAYS {
-        requests.push(Request::PostDay {
+fn plan_of<'d>(carried: &'d [u32], peak_day: &'d [Reading], usual_day: &'d [Reading]) -> Plan<'d> {
+    let opening = [
+        Request::Open {
+            code: PointCode::from(CODE),
+            contract: 20_000,
+            substation: 30_000,
+            carried,
+        },
+        Request::Start { days: DAYS },
+    ];
+    let billing = [
+        Request::Bill { month: MONTH },
+        Request::Post {
             month: MONTH,
-            day,
-            code,
-            readings: if day == 0 { peak_day } else { usual_day },
-        })?;
+            place: 0,
+            post: Post::Reading(LATE),
+        },
+        Request::TrueUp { month: MONTH },
+    ];
+    Plan {
+        opening: opening.into_iter(),
+        days: 0..DAYS,
+        peak_day,
+        usual_day,
+        hours: 0..HOURS,
+        billing: billing.into_iter(),
     }
-    for hour in 0..HOURS {
-        requests.push(Request::Post {
-            month: MONTH,
-            place: hour,
-            post: Post::Price(5_000),
-        })?;
-    }
-    requests.push(Request::Bill { month: MONTH })?;
-    requests.push(Request::Post {
-        month: MONTH,
-        place: 0,
-        post: Post::Reading(LATE),
-    })?;
-    requests.push(Request::TrueUp { month: MONTH })?;
-    Ok(requests)
 }
 
 fn sheet() -> Result<DtsSheet, Refusal> {
@@ -106,18 +125,14 @@ fn run(rt: &HostRuntime) -> anyhow::Result<()> {
     let day = [READING; DAY_QUARTERS];
     let mut peak_day = day;
     peak_day[0] = PEAK;
-    let requests = requests(rt.alloc(), &[30_000], &peak_day, &day)?;
-    let turns = requests.len();
-    let mut plan = Plan {
-        requests: requests.into_iter(),
-    };
+    let mut plan = plan_of(&[30_000], &peak_day, &day);
     let book = audit(
         &mut quarters,
         &mut hours,
         &mut entries,
         &sheet,
         &mut plan,
-        turns,
+        TURNS,
     );
     print_ledger(rt, &book)
 }

@@ -19,7 +19,7 @@ module _ {T : Type 0} (outranks : T → T → Bool) (orders : IsStrictWeakOrder 
 
   module _ (items : List T) (best : ℕ) (first : IsFirstBest outranks items (best + 1) best) where
     NoneAboveIt : ℕ → Type 0
-    NoneAboveIt to = (d : T) → NoneAbove outranks items best to (get_or items best d)
+    NoneAboveIt to = (d : T) → NoneAbove outranks items (best + 1) to (get_or items best d)
 
     -- none before a place is above it
     below : (to : ℕ) → NoneAboveIt to → (k : ℕ) (d : T) → k < to
@@ -28,18 +28,18 @@ module _ {T : Type 0} (outranks : T → T → Bool) (orders : IsStrictWeakOrder 
     below to none k d here =
         elim (cases_lt k (best + 1)) [
           | inl before ↦ first.1 k d before
-          | inr after ↦ none d k d (omega arith) here
+          | inr after ↦ none d k d after here
         ]
 
     pub best_of_all : best < length items
-        → ((d : T) → NoneAbove outranks items best (length items) (get_or items best d))
+        → ((d : T) → NoneAbove outranks items (best + 1) (length items) (get_or items best d))
         → IsFirstBest outranks items (length items) best
     unfolding NoneAboveIt
     best_of_all there none = (there, below (length items) none, first.2)
 
     -- the next that is above it is above all before
     pub best_so_far : (next : ℕ)
-        → ((d : T) → NoneAbove outranks items best next (get_or items best d))
+        → ((d : T) → NoneAbove outranks items (best + 1) next (get_or items best d))
         → ((d : T) → outranks (get_or items next d) (get_or items best d) ≡ true)
         → IsFirstBest outranks items (next + 1) next
     unfolding NoneAboveIt

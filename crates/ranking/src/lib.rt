@@ -52,7 +52,7 @@ pub fn highest<T, K: Order<T>>(items: &[T]) -> Option<usize>
     }
     let mut best = 0;
     // each search is for one item, so that what ranks it is read once
-    while let Some(next) = first_above::<T, K>(items, best, &items[best]) {
+    while let Some(next) = first_above::<T, K>(items, best + 1, &items[best]) {
         best = next;
     }
     Some(best)

@@ -165,7 +165,11 @@ impl MonthsOnFile<'_> {
         ensures peak { IfSome result
             (λ month. month.peak ≡ peak (month_in (filed_in self.now) k)) }
     {
-        self.month(k)
+        if k < self.months.started {
+            Some(self.months.records[RATCHET + k])
+        } else {
+            None
+        }
     }
 
     // What a memory, with room for each month and so many items a day, has of the month at place

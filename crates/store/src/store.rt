@@ -1,5 +1,5 @@
 // The months on file, as they change.
-ghost use Rattle.std.specs.Prelude.{◌≡◌, ◌+◌, ◌*◌, ◌<◌, ◌≤◌, [], ◌∷◌, ◌++◌, length, is_ok, OnErr, OnOk};
+ghost use Rattle.std.specs.Prelude.{◌≡◌, ◌+◌, ◌*◌, ◌<◌, ◌≤◌, [], ◌∷◌, ◌++◌, length, is_ok, true, OnErr, OnOk};
 ghost use Rattle.std.specs.List.{prefix_len};
 ghost use Rattle.store.specs.Records.{Keeps};
 ghost use Rattle.store.specs.declared.memory.TheConstants.{MONTH_HOURS, MONTH_QUARTERS};
@@ -165,6 +165,27 @@ impl Store<'_, '_, '_> {
         months.records[RATCHET + k].peak = peak;
     }
 
+    // Writes a reading within its limits over a quarter of the month at place `k`, and keeps its
+    // highest kW: as `write_readings` does of a list of one, with no list to go over.
+    fn write_reading(&mut self, k: usize, quarter: usize, reading: Reading)
+        requires started { k < self.old.months.now.started }
+        requires there { quarter < quarters_of (record_in self.old.months.now.records k).days }
+        requires within { reading_within reading ≡ true }
+        ensures month { Alters k (with_readings quarter (reading ∷ []))
+            (filed self.old) (filed self.new) }
+        ensures memory { SameMemory self.old self.new }
+    {
+        let quarters = &mut *self.quarters;
+        let months = &mut *self.months;
+        let place = MONTH_QUARTERS * k + quarter;
+        let record = months.records[RATCHET + k];
+        let days = record.days as usize;
+        let before = quarters[place].kw();
+        quarters[place] = Quarter::holding(reading);
+        let peak = peak_after(quarters, k, days, record.peak, before, reading.kw);
+        months.records[RATCHET + k].peak = peak;
+    }
+
     /// Posts to a quarter or an hour of the month at place `k`, where the last post stands. A month
     /// past the last one has no place.
     pub fn post(&mut self, k: usize, place: usize, post: Post) -> Result<(), PostError>
@@ -181,7 +202,7 @@ impl Store<'_, '_, '_> {
             return Err(PostError::OutsideLimit { place: 0 });
         }
         match post {
-            Post::Reading(reading) => self.write_readings(k, place, &[reading]),
+            Post::Reading(reading) => self.write_reading(k, place, reading),
             Post::Price(price) => self.hours[MONTH_HOURS * k + place].price = price,
             Post::Scheduled(kw) => self.hours[MONTH_HOURS * k + place].scheduled = kw,
         }

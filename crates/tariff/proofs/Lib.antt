@@ -1,6 +1,7 @@
 pub mod Cents
 pub mod ChargeBounds
 pub mod DraftFigures
+pub mod FromFn
 pub mod Nearest
 pub mod Products
 pub mod Sums

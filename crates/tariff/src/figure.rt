@@ -1,7 +1,8 @@
-ghost use Rattle.std.specs.Prelude.{◌≡◌};
-ghost use Rattle.tariff.specs.Sheets.{FigureWithin};
+ghost use Rattle.std.specs.Prelude.{◌≡◌, MatchResult};
+ghost use Rattle.tariff.specs.Sheets.{FigureWithin, FiguresWithin, IsFirstOutside};
 
-use crate::limits::WithinLimits;
+use crate::limits::{WithinLimits, first_outside};
+use crate::refusal::Refusal;
 
 /// A figure of a sheet, in the unit that its draft says, with the limits within which it can be
 /// sealed.
@@ -29,5 +30,20 @@ impl Figure {
         ensures { result ≡ record { value = value; low = low; high = high } }
     {
         Figure { value, low, high }
+    }
+
+    /// Whether all lie within their limits, of however many. Refused where one does not, with the
+    /// place of the first such, from 1.
+    pub fn check(figures: &[Figure]) -> Result<(), Refusal>
+        ensures { MatchResult result
+            (λ _. FiguresWithin figures.now)
+            (IsFirstOutside figures.now) }
+    {
+        match first_outside(figures) {
+            Some(before) => Err(Refusal::FigureOutside {
+                place: before as u64 + 1,
+            }),
+            None => Ok(()),
+        }
     }
 }

@@ -3,8 +3,8 @@ ghost use Rattle.tariff.specs.Refusals.{refusal_text};
 ghost use Rattle.tariff.specs.Sheets.{FigureList, FiguresWithin, IsFirstOutside, figure_list, values_of};
 ghost use Rattle.tariff.specs.declared.figures.OwnFigures.{OwnFigures};
 
+use crate::figure::Figure;
 use crate::figures::{Figures, OwnFigures};
-use crate::limits::first_outside;
 use crate::refusal::Refusal;
 use std::error::Error;
 use std::fmt;
@@ -66,14 +66,12 @@ pub trait Draft: Sized + Drop {
             (λ unsealed. (unsealed.draft ≡ self) × IsFirstOutside (figures self) unsealed.refusal) }
     {
         let figures = self.figures();
-        match first_outside(figures.as_slice()) {
-            Some(before) => Err(Unsealed {
-                refusal: Refusal::FigureOutside {
-                    place: before as u64 + 1,
-                },
+        match Figure::check(figures.as_slice()) {
+            Ok(()) => Ok(Sealed { draft: self }),
+            Err(refusal) => Err(Unsealed {
+                refusal,
                 draft: self,
             }),
-            None => Ok(Sealed { draft: self }),
         }
     }
 

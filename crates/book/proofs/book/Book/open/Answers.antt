@@ -93,7 +93,7 @@ pub returns-in_err-carry : goal.returns-in_err-carry
 returns-in_err-carry c meaning =
     let ensures = c.in_err-carry.ensures in
     let memory = ensures.memory in
-    outside c.args.contract c.args.substation c.args.carried.now meaning (code_bytes c.args.code) c.args.self.now _ (search (rules, c.is_some.ensures, c.if-is_some.false)) c.from_residual-in_err-carry.result OpeningOutside c.from_residual-in_err-carry.ensures.1 refl (λ parts. true≢false (sym parts.1 ∙ sym ensures.result)) (unaltered_left c.args.self.now {new = c.carry.new.self} (search (rules, memory)) (search rules) refl refl refl ensures.refused) (search rules)
+    outside c.args.contract c.args.substation c.args.carried.now meaning (code_bytes c.args.code) c.args.self.now _ (search (rules, c.is_some.ensures, c.if-is_some.false)) c.from_residual-in_err-carry.result OpeningOutside c.from_residual-in_err-carry.ensures.1 refl (λ parts. true≢false (sym parts.1 ∙ sym ensures.result)) (unaltered_left c.args.self.now {new = c.carry.new.self} (search (rules, memory)) (search rules) refl refl refl (search rules) ensures.refused) (search rules)
 
 pub invariant_of-self-2 : goal.invariant_of-self-2
 invariant_of-self-2 c =

@@ -25,7 +25,7 @@ returns c meaning =
     let is = c.in_ok-named.ensures in
     let memory = c.post.ensures.memory in
     performs_post meaning (posts m place post)
-    (search rules) (search (rules, memory)) (search rules) refl refl refl
+    (search rules) (search (rules, memory)) (search rules) refl refl refl (search rules)
     m place found.index (month_with_post place post) tt c.post.result c.map_err.result
     (answered (post_refusal m place) _ c.post.result c.map_err.result c.map_err.ensures.cases (λ error refusal made. search rules))
     (not_final_passes m v found is (post_rows m place post v)

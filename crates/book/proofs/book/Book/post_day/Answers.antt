@@ -41,7 +41,7 @@ returns c meaning =
     let is = c.in_ok-named.ensures in
     let memory = c.post_day.ensures.memory in
     performs_post meaning (posts_day m day code readings)
-    (search rules) (search (rules, memory)) (search rules) refl refl refl
+    (search rules) (search (rules, memory)) (search rules) refl refl refl (search rules)
     m day found.index (month_with_day day readings) tt c.post_day.result c.map_err.result
     (answered (post_refusal m day) _ c.post_day.result c.map_err.result c.map_err.ensures.cases (λ error refusal made. search rules))
     (not_final_passes m v found is (day_rows m day code readings v)

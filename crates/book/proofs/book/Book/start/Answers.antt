@@ -1,3 +1,4 @@
+use denote.MutBor.{now}
 use Rattle.std.proofs.Common.{rules, ◌≡◌, ℕ, ◌+◌, false, not, leb, List, [], ◌∷◌, ◌++◌, length, is_some, Some, Ok, Err, Result, OnOk, OnErr, sym, refl, ap, ◌∙◌, inl, inr}
 use Rattle.std.proofs.lemmas.Bool.{cases_Bool, cond-false, cond-true}
 use Rattle.ledger.specs.declared.entry.Entry.{Entry}
@@ -13,7 +14,7 @@ use Rattle.book.specs.Table.{blank_book, row}
 use Rattle.book.specs.declared.book.Book.{Book}
 use Rattle.book.specs.declared.point.Point.{Point}
 use Rattle.book.proofs.Exits.{is_refused, is_taken, first_holds, none_holds, pass}
-use Rattle.book.proofs.Left.{IsStoreOf, kept_left, lent_file, unaltered_left, view_left}
+use Rattle.book.proofs.Left.{IsStoreOf, SameReferences, kept_left, lent_file, unaltered_left, view_left}
 use Rattle.book.specs.Unbilled.{Unbilled}
 use Rattle.book.proofs.Unbilled.{unbilled_started}
 use Rattle.book.proofs.book.Book.start.Goals as goal
@@ -36,7 +37,7 @@ module _ (book : Book) (days : ℕ) (old new : Store) (lent : IsStoreOf book old
   module _ (meaning : Meaning) (book' : Book) (left : IsStoreOf book' new) (point : Point) (opened : book.point ≡ Some point)
       (is : r ≡ start_answer (capacity_of (filed old)) (length (months_of (filed old))) days)
       (same : book'.point ≡ book.point) (written : book'.written ≡ book.written)
-      (entries : book'.entries.now ≡ book.entries.now)
+      (entries : book'.entries ≡ book.entries) (behind : SameReferences book book')
       (before : earlier_peaks_of (filed new) ≡ earlier_peaks_of (filed old))
       (capacity : capacity_of (filed new) ≡ capacity_of (filed old))
       (memory : SameMemory book book') where
@@ -48,8 +49,8 @@ module _ (book : Book) (days : ℕ) (old new : Store) (lent : IsStoreOf book old
         let v = view book in
         let file = sym (lent_file lent) in
         let answered : r ≡ start_answer v.capacity (length v.months) days = rw file at is in
-        let kept = unaltered_left book left lent same written entries in
-        let seen = view_left book left entries refl (lent_file lent) capacity in
+        let kept = unaltered_left book left lent same written entries behind in
+        let seen = view_left book left (ap now entries) refl (lent_file lent) capacity in
         let rest = row (not (days_within days)) DaysOutside in
         elim (cases_Bool (leb v.capacity (length v.months))) [
           | inl none ↦
@@ -81,4 +82,4 @@ pub returns : goal.returns
 returns c meaning =
     let ensures = c.start.ensures in
     let memory = ensures.memory in
-    performs c.args.self.now c.args.days _ c.start.new.self (search rules) c.start.result ensures.months ensures.refused meaning _ (search (rules, memory)) c.in_ok-open_point.field-0 c.in_ok-open_point.ensures ensures.result refl refl refl ensures.before ensures.capacity (search rules)
+    performs c.args.self.now c.args.days _ c.start.new.self (search rules) c.start.result ensures.months ensures.refused meaning _ (search (rules, memory)) c.in_ok-open_point.field-0 c.in_ok-open_point.ensures ensures.result refl refl refl (search rules) ensures.before ensures.capacity (search rules)
